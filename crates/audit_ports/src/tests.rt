@@ -1,0 +1,83 @@
+//! The real files and outputs, of which no clause says what they hold.
+use crate::{Failed, OpenFault, RealShelf, RealSink, Shelf, Sink};
+use std::io::{self, ErrorKind, Write};
+use std::test::Fail;
+use std::{fs, process};
+
+// Opens a file, and reads three times into the same two bytes.
+fn read_thrice(shelf: &mut impl Shelf, name: &[u8]) -> Result<([usize; 3], [u8; 2]), OpenFault> {
+    shelf.open(name)?;
+    let mut into = [0u8; 2];
+    let Ok(first) = shelf.read(&mut into) else {
+        return Err(OpenFault::Failed);
+    };
+    let Ok(second) = shelf.read(&mut into) else {
+        return Err(OpenFault::Failed);
+    };
+    let Ok(third) = shelf.read(&mut into) else {
+        return Err(OpenFault::Failed);
+    };
+    Ok(([first, second, third], into))
+}
+
+#[test]
+fn a_real_file_is_read_to_its_end(rt: HostRuntime) -> Result<(), Fail> {
+    let name = format!(in rt.alloc(); "audit-ports-{}", process::id(rt.process()))?;
+    let inside = format!(in rt.alloc(); "{name}/inside")?;
+    fs::write(&rt, name.as_str(), b"abc".as_slice())?;
+    let mut shelf = RealShelf::over(rt);
+    let whole = read_thrice(&mut shelf, name.as_bytes());
+    let through_a_file = shelf.open(inside.as_bytes());
+    fs::remove_file(&rt, name.as_str())?;
+
+    assert_eq!(rt; whole, Ok(([2, 1, 0], *b"cb")));
+    assert_eq!(rt; through_a_file, Err(OpenFault::Failed));
+    assert_eq!(rt; shelf.open(name.as_bytes()), Err(OpenFault::Missing));
+    assert_eq!(rt; shelf.open(b"\xff"), Err(OpenFault::Failed));
+    // A folder can be opened, and not read.
+    assert_eq!(rt; shelf.open(b"."), Ok(()));
+    assert_eq!(rt; read_thrice(&mut shelf, b"."), Err(OpenFault::Failed));
+    Ok(())
+}
+
+// A stream that takes nothing.
+#[derive(Drop)]
+struct Closed;
+
+impl Write for Closed {
+    fn write(&mut self, _buf: &[u8]) -> io::Result<usize> {
+        Err(io::Error::from(ErrorKind::BrokenPipe))
+    }
+
+    fn flush(&mut self) -> io::Result<()> {
+        Err(io::Error::from(ErrorKind::BrokenPipe))
+    }
+}
+
+#[test]
+fn a_real_output_takes_all_or_fails(rt: HostRuntime) -> Result<(), Fail> {
+    let mut room = [0u8; 4];
+    let mut full = RealSink::over(room.as_mut_slice());
+    let first = full.write(b"abc");
+    let second = full.write(b"de");
+    assert_eq!(rt; (first, second), (Ok(()), Err(Failed)));
+    assert_eq!(rt; room, *b"abcd");
+
+    let mut closed = RealSink::over(Closed);
+    assert_eq!(rt;
+        (closed.write(b"a"), closed.flush()),
+        (Err(Failed), Err(Failed))
+    );
+
+    let mut output = RealSink::output(rt);
+    assert_eq!(rt;
+        (output.write(b"standard output\n"), output.flush()),
+        (Ok(()), Ok(()))
+    );
+    let mut error = RealSink::error(rt);
+    assert_eq!(rt;
+        (error.write(b"standard error\n"), error.flush()),
+        (Ok(()), Ok(()))
+    );
+    Ok(())
+}
