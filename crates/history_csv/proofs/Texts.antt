@@ -1,0 +1,47 @@
+-- Buffers seen as texts.
+use Rattle.std.proofs.Common.{◌≡◌, ℕ, zero, suc, ◌<◌, Bool, true, false, List, [], ◌∷◌, ◌++◌, Vec, Some, length, get_or, slice_get, refl, sym, ◌∙◌, arith}
+use Rattle.std.proofs.lemmas.List.{length-map, map-append}
+use Rattle.std.proofs.lemmas.Map.Keys.{apart_from_distinct}
+use Rattle.std.specs.List.{IsDistinct, list_any, position}
+use Rattle.history_csv.proofs.Distinct.{bytes_eq-flip, same_text}
+use Rattle.std.specs.Str.{bytes_eq}
+use Rattle.indexmap.specs.IndexSet.{insert_key}
+use Rattle.history_csv.specs.Building.{texts_of, with_text}
+use Rattle.history_csv.proofs.Places.{list_any-map, position-at, position_or_len-map, some_of}
+
+-- a copy of a new text, put into a set, puts the text to the end
+pub texts-insert : {A : Type 0} (keys new : List (Vec ℕ A)) (copy : Vec ℕ A) (text : List ℕ) → copy.items ≡ text → list_any (bytes_eq text) (texts_of keys) ≡ false
+    → new ≡ insert_key (λ x y. bytes_eq x.items y.items) keys copy → texts_of new ≡ with_text (texts_of keys) text
+texts-insert {A} keys new copy text same none_shown inserted =
+    let none : list_any (λ k. bytes_eq text k.items) keys ≡ false = sym (list_any-map (bytes_eq text) (λ (k : Vec ℕ A). k.items) keys) ∙ none_shown in
+    let none_of_copy : list_any (λ k. bytes_eq copy.items k.items) keys ≡ false = rw same none in
+    let last : new ≡ keys ++ copy ∷ [] = inserted ∙ rw none_of_copy refl in
+    rw (last, none_shown, map-append (λ (k : Vec ℕ A). k.items) keys (copy ∷ []), same) refl
+
+-- the place of a text among the buffers is that among their texts
+pub position-texts : {A : Type 0} (keys : List (Vec ℕ A)) (text : List ℕ) → position (λ k. bytes_eq text k.items) keys ≡ position (bytes_eq text) (texts_of keys)
+position-texts {A} keys text =
+    let same = position_or_len-map (bytes_eq text) (λ (k : Vec ℕ A). k.items) keys in
+    let long : length (texts_of keys) ≡ length keys = length-map keys (λ (k : Vec ℕ A). k.items) in
+    rw (same, long) refl
+
+-- ---- the last text
+
+get-read : {X : Type 0} (xs : List X) (i : ℕ) (x : X) → slice_get xs i ≡ Some x → (i < length xs) × (get_or xs i x ≡ x)
+get-read [] i x e = cc
+get-read (y ∷ ys) zero x e = (omega arith, some_of y x e)
+get-read (y ∷ ys) (suc i) x e = let (within, same) = get-read ys i x e in (omega arith, same)
+
+-- among distinct texts, a text that stands at a place stands there first
+pub position-read : {A : Type 0} (keys : List (Vec ℕ A)) (text : List ℕ) (i : ℕ) (k : Vec ℕ A) → IsDistinct (λ x y. bytes_eq x.items y.items) keys → slice_get keys i ≡ Some k → bytes_eq text k.items ≡ true
+    → Some i ≡ position (bytes_eq text) (texts_of keys)
+position-read {A} keys text i k distinct at same =
+    let (within, read) = get-read keys i k at in
+    let is : text ≡ k.items = same_text text k.items same in
+    let is_text : Vec ℕ A → Bool = λ x. bytes_eq text x.items in
+    let here : is_text (get_or keys i k) ≡ true = rw read same in
+    let before : (j : ℕ) → j < i → is_text (get_or keys j k) ≡ false = λ j lt.
+    let apart = apart_from_distinct (λ (x y : Vec ℕ A). bytes_eq x.items y.items) keys j i k distinct lt within in
+    let differs : bytes_eq (get_or keys j k).items k.items ≡ false = rw read at apart in
+    rw is (bytes_eq-flip k.items (get_or keys j k).items ∙ differs) in
+    position-at is_text keys i k within before here ∙ position-texts keys text

@@ -1,0 +1,26 @@
+-- What the code holds while it reads: maps whose keys are texts, seen as lists of texts.
+use Rattle.std.specs.Prelude.{ℕ, if◌then◌else◌, List, [], ◌∷◌, ◌++◌, map, Vec}
+use Rattle.std.specs.List.{list_any}
+use Rattle.std.specs.Str.{bytes_eq}
+use Rattle.stale_model.specs.declared.KeyOps.{KeyOps}
+use Rattle.history_csv.specs.Numbering.{Contents, contents_of, named, is_filled}
+
+-- the texts of these buffers
+abbrev pub texts_of : {A : Type 0} → List (Vec ℕ A) → List (List ℕ)
+texts_of buffers = map (λ buffer. buffer.items) buffers
+
+-- the keys of these entries of a map
+abbrev pub keys_shown : {A : Type 0} → List (Vec ℕ A × Contents) → List KeyOps
+keys_shown entries = map (λ entry. named entry.0.items entry.1) entries
+
+-- the keys with one of this name at their end, which holds nothing yet, unless there is one already
+abbrev pub with_key : List KeyOps → List ℕ → List KeyOps
+with_key keys name = if list_any (λ key. bytes_eq name key.name) keys then keys else keys ++ named name (contents_of []) ∷ []
+
+-- the texts with this one at their end, unless it is there already
+abbrev pub with_text : List (List ℕ) → List ℕ → List (List ℕ)
+with_text texts text = if list_any (bytes_eq text) texts then texts else texts ++ text ∷ []
+
+-- the values of a key with one more, which counts only where it is not empty
+abbrev pub with_value : List (List ℕ) → List ℕ → List (List ℕ)
+with_value values value = if is_filled value then with_text values value else values

@@ -1,0 +1,120 @@
+//! Reads histories: CSV files with one operation a record.
+#![tactic(auto)]
+
+ghost use Rattle.std.specs.Prelude.{◌≡◌, ◌≢◌, ◌+◌, ◌⊎◌, Err, length, sum_by, IfOk};
+ghost use Rattle.stale_model.specs.Operations.{IsValidHistory};
+ghost use Rattle.history_csv.specs.Reading.{read_of, records_of, history_after};
+ghost use Rattle.history_csv.specs.Records.{IsReading, records_left};
+
+mod entry;
+mod header;
+mod numbering;
+mod records;
+
+use crate::entry::entry_of;
+use crate::header::{Columns, columns_of};
+use crate::numbering::HistoryBuilder;
+use crate::records::{read_next, reader_of};
+use csv::{ByteRecord, Reader};
+use stale_model::{History, Memory};
+use std::alloc::Global;
+
+/// The greatest number of records after the header.
+const MOST_RECORDS: u32 = 1_000_000;
+
+/// Why a history was not read. A record's number counts from 1, after the header.
+#[derive(Debug, Clone, Copy, PartialEq, Eq)]
+pub enum HistoryFault {
+    /// There is no record at all, so no header.
+    NoHeader,
+    /// The header does not name this column exactly once, or `slack` more than once. The columns are
+    /// numbered 1 to 7: client, op, key, value, start, finish and slack.
+    Column { name: u8 },
+    /// The record has another number of fields than the header.
+    Fields { rec: u32 },
+    /// `op` is none of `r`, `read`, `w` and `write`.
+    Op { rec: u32 },
+    /// `client` is not 1 to 10 digits, or above 4294967295.
+    Client { rec: u32 },
+    /// `key` is empty or longer than 256 bytes.
+    Key { rec: u32 },
+    /// `value` is longer than 256 bytes, or empty for a write.
+    Value { rec: u32 },
+    /// `start` is no tick, or `finish` is neither empty nor a tick.
+    Time { rec: u32 },
+    /// `finish` is less than `start`.
+    Backwards { rec: u32 },
+    /// There are more than 1,000,000 records after the header.
+    Records,
+    /// Memory ran out.
+    Memory,
+    /// `slack` is neither empty nor a number of 1 to 19 digits, at most 4611686018427387903.
+    Slack { rec: u32 },
+}
+
+impl From<Memory> for HistoryFault {
+    ghost use Rattle.std.specs.Prelude.{◌≡◌};
+    ghost use Rattle.history_csv.specs.declared.HistoryFault.{HistoryFault};
+
+    ghost from_gives = { λ memory fault. fault ≡ HistoryFault.Memory };
+
+    fn from(_memory: Memory) -> HistoryFault {
+        HistoryFault::Memory
+    }
+}
+
+/// Reads the records after the header.
+fn read_records(
+    alloc: Global,
+    columns: &Columns,
+    reader: &mut Reader<&[u8]>,
+    row: &mut ByteRecord,
+) -> Result<History, HistoryFault>
+    requires { IsReading reader.old }
+    ensures { (result ≡ Err HistoryFault.Memory) ⊎ (result ≡ history_after columns.now (records_left reader.old)) }
+{
+    let mut history = HistoryBuilder::new(alloc);
+    for rec in 1..MOST_RECORDS + 1 {
+        if !read_next(reader, row)? {
+            return Ok(history.finish(alloc)?);
+        }
+        let entry = entry_of(columns, rec, row)?;
+        history.add(alloc, &entry)?;
+    }
+    if read_next(reader, row)? {
+        return Err(HistoryFault::Records);
+    }
+    Ok(history.finish(alloc)?)
+}
+
+/// Reads a history.
+///
+/// The bytes are records of fields between commas, where quotes may stand round a field, after at most
+/// one byte order mark. The first record is the header. It names the columns `client`, `op`, `key`,
+/// `value`, `start` and `finish` in any order, once each, and may name `slack`. Columns of other names
+/// are not looked at. Keys, and the values of each key, are numbered by first appearance. A read with no
+/// finish is checked like any other record and then left out, and counts in `skipped`.
+///
+/// # Errors
+/// The first of: a fault of the header, and the fault of the first record at fault, in the order of
+/// `HistoryFault` with `Slack` last of a record's own. A record after the millionth gives `Records`
+/// before its own checks. `Memory` may come at any time.
+#[tactic(auto, using(crate::proofs::Definite::read_definite))]
+pub fn read_history(alloc: Global, bytes: &[u8]) -> Result<History, HistoryFault>
+    ensures read { (result ≡ Err HistoryFault.Memory) ⊎ (result ≡ read_of bytes.now) }
+    ensures definite { read_of bytes.now ≢ Err HistoryFault.Memory }
+    ensures valid { IfOk result IsValidHistory }
+    ensures records { IfOk result (λ history. history.records + 1 ≡ length (records_of bytes.now)) }
+    ensures skipped { IfOk result (λ history. history.skipped + sum_by (λ key. length key.ops) history.keys ≡ history.records) }
+{
+    let mut reader = reader_of(alloc, bytes);
+    let mut row = ByteRecord::new(alloc);
+    if !read_next(&mut reader, &mut row)? {
+        return Err(HistoryFault::NoHeader);
+    }
+    let columns = columns_of(&row)?;
+    read_records(alloc, &columns, &mut reader, &mut row)
+}
+
+#[cfg(test)]
+mod tests;

@@ -1,0 +1,21 @@
+use super::*;
+use std::test::Fail;
+
+#[test]
+fn reads_a_history(rt: HostRuntime) -> Result<(), Fail> {
+    let text =
+        b"\xEF\xBB\xBFop,client,extra,key,value,start,finish,slack,extra\r\nw,07,,\"user,7\",a,1,2,,\r\nread,8,,\"user,7\",,3,,5,\r\nr,8,,\"user,7\",b,3,3,5,\r\nwrite,1,,k,b,4,,0,\r\n";
+    let history = read_history(rt.alloc(), text)?;
+    assert_eq!(rt; history.records, 4);
+    assert_eq!(rt; history.skipped, 1);
+    let keys = history.keys.as_slice();
+    assert_eq!(rt; keys.len(), 2);
+    assert_eq!(rt; keys[0].name.as_slice(), b"user,7".as_slice());
+    assert_eq!(rt; keys[0].values.as_slice().len(), 2);
+    let ops = keys[0].ops.as_slice();
+    assert_eq!(rt; ops.len(), 2);
+    assert_eq!(rt; ops[1].value, 2);
+    assert_eq!(rt; ops[1].slack, 5);
+    assert_eq!(rt; keys[1].ops.as_slice()[0].finish, 9_223_372_036_854_775_808);
+    Ok(())
+}
