@@ -1,0 +1,17 @@
+use Rattle.std.proofs.Common.{rules, Some}
+use borrow.Author.Tests.{tests}
+use Rattle.std.proofs.lemmas.Iterator.{items_from_collect, YieldsList-from_slice}
+use Rattle.std.proofs.lemmas.Iterator.Adapters.{YieldsList-from_once}
+use Rattle.std.proofs.lemmas.Iterator.Consumers.{YieldsList-from_filter_map, YieldsList-from_chain, YieldsList-from_copied, YieldsList-at}
+use Rattle.stale_model.specs.Operations.{initial_write}
+use Rattle.clusters.specs.Tables.{cluster_in}
+use Rattle.clusters.proofs.clusters_in_order.Goals as goal
+
+pub returns : goal.returns
+returns c =
+    let key = c.args.key.now in
+    items_from_collect _ c.collect.ensures.ran
+    (YieldsList-from_filter_map _ (cluster_in c.args.table.now)
+    (YieldsList-at c.filter_map.ensures.source
+    (YieldsList-from_chain (YieldsList-at c.chain.ensures.first (YieldsList-from_once (Some initial_write) c.once.ensures.item)) (YieldsList-at c.chain.ensures.second (YieldsList-from_copied (YieldsList-from_slice key.ops cc))) c.chain.ensures.first_done c.chain.ensures.second_done))
+    c.filter_map.ensures.closure (λ x r q k. search (rules, tests)))

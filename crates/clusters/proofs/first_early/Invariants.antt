@@ -1,0 +1,12 @@
+use Rattle.std.proofs.Common.{◌≡◌, ◌∷◌, take}
+use Rattle.stale_model.specs.Operations.{initial_write, operations}
+use Rattle.stale_model.specs.Faults.{IsEarly}
+use Rattle.clusters.proofs.Scanning.{IsNoneAmong}
+use Rattle.clusters.proofs.first_early.Given as goal
+
+abbrev pub invariant-loop-op : goal.invariant-loop-op
+invariant-loop-op l =
+    record {
+      ops : l.op-items ≡ l.key.ops;
+      none : IsNoneAmong (IsEarly (operations l.key)) (initial_write ∷ take l.op-index l.key.ops);
+    }
