@@ -1,0 +1,6 @@
+pub mod Places
+pub mod ZoneOrder
+pub mod Conflicts
+pub mod Crossings
+pub mod Greatest
+pub mod Pairs
