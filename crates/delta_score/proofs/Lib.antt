@@ -1,0 +1,15 @@
+pub mod Comparisons
+pub mod ClusterBounds
+pub mod Excluded
+pub mod Once
+pub mod Segments
+pub mod SortedPlaces
+pub mod Ordered
+pub mod SortedPermutation
+pub mod Crossings
+pub mod Theorem
+pub mod LeastBounds
+pub mod ListedWrites
+pub mod Placing
+pub mod Lookup
+pub mod Ranked

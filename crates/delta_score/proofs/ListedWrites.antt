@@ -1,0 +1,66 @@
+-- The write records of a key, and of its clusters.
+use Rattle.std.proofs.Common.{◌≡◌, ℕ, List, map, sym, ◌∙◌, ap}
+use Rattle.std.specs.Prelude.{Contains, option_map}
+use Rattle.std.specs.List.{filter}
+use Rattle.std.proofs.lemmas.Option.{get_or_from_slice_get, slice_get-map}
+use Rattle.std.proofs.lemmas.List.{length-map}
+use Rattle.std.proofs.lemmas.List.Kept.{AllPairs-from_increasing}
+use Rattle.std.proofs.lemmas.List.Sorted.{Contains-permutation, IsPermutation-sym, IsPermutation-map}
+use Rattle.stale_model.specs.Clusters.{writes_of}
+use Rattle.stale_model.specs.declared.Op.{Op}
+use Rattle.stale_model.specs.declared.Cluster.{Cluster}
+use Rattle.stale_model.specs.Operations.{IsWrite, is_write, is_write_kind}
+use Rattle.stale_model.specs.Orders.{StandsAt}
+use Rattle.model_laws.proofs.Places.{contains_at, at_its_place, something_at}
+use Rattle.model_laws.proofs.Listings.{origin, origin_stands, passes_at, keeps}
+use Rattle.delta_score.specs.WriteLists.{write_records}
+use Rattle.delta_score.specs.ZoneLaws.{ClustersListWrites}
+use Rattle.delta_score.proofs.Once.{without_repeats_in_order}
+use Rattle.delta_score.proofs.Segments.{IsWriteWithRecord, is_write_by}
+
+-- x stands in xs, and y is its image
+record HasOrigin {X : Type 0} (f : X → ℕ) (xs : List X) (y : ℕ) : Type 0 where
+  place : ℕ
+  x : X
+  at : StandsAt xs place x
+  image : f x ≡ y
+
+module _ {X : Type 0} (f : X → ℕ) (xs : List X) where
+  -- the image of what stands in xs stands among the images
+  has_image : (x : X) → Contains xs x → Contains (map f xs) (f x)
+  has_image x c = contains_at (map f xs) c.0 (f x) (slice_get-map f xs c.0 ∙ ap (option_map f) (at_its_place xs x c))
+
+  -- what stands among the images is an image
+  has_origin : (y : ℕ) → Contains (map f xs) y → HasOrigin f xs y
+  has_origin y (i, within, is) =
+      let (x, at) = something_at xs i (simp length-map at within) in
+      record { place = i; x = x; at = at; image = sym (get_or_from_slice_get (map f xs) i (f x) y (slice_get-map f xs i ∙ ap (option_map f) at)) ∙ is }
+
+-- the record of a write is among the write records
+pub write_is_listed : (ops : List Op) (w : Op) → Contains ops w → IsWrite w → Contains (write_records ops) w.rec
+write_is_listed ops w there write = has_image (λ (a : Op). a.rec) (filter is_write ops) w (keeps is_write ops w (ap is_write_kind write) there.0 (at_its_place ops w there))
+
+-- a write record is the record of a write
+pub listed_is_write : (ops : List Op) (rec : ℕ) → Contains (write_records ops) rec → IsWriteWithRecord ops rec
+listed_is_write ops rec c =
+    let o = has_origin (λ (a : Op). a.rec) (filter is_write ops) rec c in
+    record {
+      w = o.x;
+      there = contains_at ops (origin is_write ops o.place) o.x (origin_stands is_write ops o.place o.x o.at);
+      kind = is_write_by o.x.kind (passes_at is_write ops o.place o.x o.at);
+      record_is = o.image;
+    }
+
+pub clusters_list_writes : ClustersListWrites
+clusters_list_writes ops clusters zones are each = record {
+  known = λ rec c.
+      let o = has_origin (λ (c : Cluster). c.write) zones rec c in
+      let (w, is) = are.each o.x (Contains-permutation zones clusters o.x (IsPermutation-sym clusters zones each) (contains_at zones o.place o.x o.at)) in
+      rw (sym o.image ∙ sym is.record_is) (write_is_listed ops w is.there is.kind);
+  whole = λ rec c.
+      let w = listed_is_write ops rec c in
+      let (zone, member, is) = are.whole w.w w.there w.kind in
+      rw (sym w.record_is ∙ is.record_is) (has_image (λ (c : Cluster). c.write) zones zone (Contains-permutation clusters zones zone each member));
+  once = without_repeats_in_order (writes_of clusters) (writes_of zones) (AllPairs-from_increasing (writes_of clusters) are.rising)
+      (IsPermutation-map (λ (c : Cluster). c.write) clusters zones each);
+}

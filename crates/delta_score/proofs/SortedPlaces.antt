@@ -1,0 +1,106 @@
+-- Where operations stand in a list that is sorted by the operation order with k = 1.
+use Rattle.std.proofs.Common.{◌≡◌, ℕ, ◌+◌, ◌-◌, ◌<◌, ◌≤◌, Bool, true, false, cond, List, length, get_or, drop, refl, sym, ◌∙◌, ap, inl, inr, arith}
+use Rattle.std.specs.Prelude.{slice_range, count_by, Contains, not}
+use Rattle.std.specs.Cmp.{IsTotalOrder, bool_cmp_total}
+use Rattle.std.specs.declared.cmp.Ordering.TheVariants.{Less, Equal}
+use Rattle.std.specs.Ordering.{nat_cmp, is_lt}
+use Rattle.std.specs.List.Sorted.{IsPermutation, IsSorted}
+use Rattle.std.proofs.lemmas.Bool.{cases_lt, both_ways}
+use Rattle.std.proofs.lemmas.Cmp.{nat_cmp_total, on_total, then_total}
+use Rattle.std.proofs.lemmas.Option.{slice_get_within, get_or_from_slice_get}
+use Rattle.std.proofs.lemmas.List.{get_or-take, get_or-drop, length-take, length-drop, length-map}
+use Rattle.std.proofs.lemmas.List.Sums.{sum_by-le}
+use Rattle.std.proofs.lemmas.List.Sorted.{Contains-permutation, IsPermutation-sym, sorted_far, ranks_by}
+use Rattle.stale_model.specs.declared.Op.{Op}
+use Rattle.stale_model.specs.Operations.{IsRead, IsWrite, is_write, records_of, earliest_start}
+use Rattle.stale_model.specs.NamedWrites.{RecordsDiffer}
+use Rattle.stale_model.specs.Orders.{StandsAt, StandsBefore}
+use Rattle.stale_model.specs.OperationOrders.{write_place, segment, operation_order}
+use Rattle.model_laws.proofs.Places.{at_its_place, something_at, same_at, contains_at}
+use Rattle.delta_score.proofs.Comparisons.{nat_less, nat_same}
+use Rattle.delta_score.proofs.Once.{record_at}
+use Rattle.delta_score.proofs.Segments.{segment_is}
+
+-- x stands between two places, and at this place of the part between them
+record StandsInPart (xs : List ℕ) (i j k d : ℕ) : Type 0 where
+  x : ℕ
+  at : StandsAt xs (i + 1 + k) x
+  below : i + 1 + k < j
+  is : get_or (slice_range xs (i + 1) j) k d ≡ x
+
+part_at : (xs : List ℕ) (i j k x d : ℕ) → k < j - (i + 1) → StandsAt xs (i + 1 + k) x → get_or (slice_range xs (i + 1) j) k d ≡ x
+part_at xs i j k x d within at =
+    get_or-take (j - (i + 1)) (drop (i + 1) xs) k d within ∙ get_or-drop (i + 1) xs k d ∙ get_or_from_slice_get xs (i + 1 + k) x d at
+
+stands_in_part : (xs : List ℕ) (i j k d : ℕ) → k < length (slice_range xs (i + 1) j) → StandsInPart xs i j k d
+stands_in_part xs i j k d within =
+    let long = simp (length-take, length-drop) at within in
+    let (x, at) = something_at xs (i + 1 + k) (omega arith) in
+    record { x = x; at = at; below = omega arith; is = part_at xs i j k x d (omega arith) at }
+
+counts_nothing : (b : Bool) → b ≡ false → cond {A = ℕ} b 1 0 ≤ 0
+counts_nothing true e = absurd (both_ways _ e refl)
+counts_nothing false e = omega arith
+
+-- numbers that fail a test at each place between two places don't count there
+pub none_counts_between : (p : ℕ → Bool) (xs : List ℕ) (i j : ℕ) → ((l x : ℕ) → i < l → l < j → StandsAt xs l x → p x ≡ false) → count_by p (slice_range xs (i + 1) j) < 1
+none_counts_between p xs i j none =
+    let fails = λ (k d : ℕ) (in_part : StandsInPart xs i j k d). counts_nothing (p (get_or (slice_range xs (i + 1) j) k d))
+    (ap p in_part.is ∙ none (i + 1 + k) in_part.x (omega arith) in_part.below in_part.at) in
+    let most = sum_by-le (λ x. cond (p x) 1 0) 0 (slice_range xs (i + 1) j) (λ k d within. fails k d (stands_in_part xs i j k d within)) in
+    omega arith
+
+module _ (ops : List Op) (d : ℕ) (writes : List ℕ) where
+  pub order_total : IsTotalOrder (operation_order ops d 1 writes)
+  order_total =
+      then_total (then_total (then_total (on_total (segment ops d 1 writes) nat_cmp_total) (on_total (λ a. not (is_write a)) bool_cmp_total)) (on_total earliest_start nat_cmp_total))
+      (on_total (λ a. a.rec) nat_cmp_total)
+
+  -- an operation is less than those of later places
+  pub less_by_place : (a b : Op) → write_place ops writes a < write_place ops writes b → operation_order ops d 1 writes a b ≡ Less
+  less_by_place a b less =
+      let low = segment_is ops d writes a in
+      let high = segment_is ops d writes b in
+      rw (nat_less (segment ops d 1 writes a) (segment ops d 1 writes b) (omega arith)) refl
+
+  same_segment : (a b : Op) → write_place ops writes a ≡ write_place ops writes b → nat_cmp (segment ops d 1 writes a) (segment ops d 1 writes b) ≡ Equal
+  same_segment a b same = nat_same _ _ (segment_is ops d writes a ∙ same ∙ sym (segment_is ops d writes b))
+
+  -- a write is less than the reads of its place
+  pub write_is_less : (a b : Op) → write_place ops writes a ≡ write_place ops writes b → IsWrite a → IsRead b → operation_order ops d 1 writes a b ≡ Less
+  write_is_less a b same write read = rw (same_segment a b same, write, read) refl
+
+  -- a read is less than those of its place that start later
+  pub earlier_is_less : (a b : Op) → write_place ops writes a ≡ write_place ops writes b → IsRead a → IsRead b → earliest_start a < earliest_start b
+      → operation_order ops d 1 writes a b ≡ Less
+  earlier_is_less a b same reads read less = rw (same_segment a b same, reads, read, nat_less (earliest_start a) (earliest_start b) less) refl
+
+  module _ (sorted : List Op) (each : IsPermutation ops sorted) (up : IsSorted (operation_order ops d 1 writes) sorted) where
+    -- nothing stands after what is greater
+    pub not_less_later : (i j : ℕ) (a b : Op) → StandsAt sorted i a → StandsAt sorted j b → i ≤ j → operation_order ops d 1 writes b a ≡ Less → ⊥
+    not_less_later i j a b ati atj le less =
+        let no = sorted_far (λ x y. is_lt (operation_order ops d 1 writes x y)) (ranks_by order_total (λ x. x)) sorted up i j a le (slice_get_within sorted j b atj) in
+        let e = get_or_from_slice_get sorted i a a ati in
+        let f = get_or_from_slice_get sorted j b a atj in
+        both_ways _ (rw (e, f) at no) (ap is_lt less)
+
+    -- what is less stands before
+    pub less_stands_before : (a b : Op) → Contains ops a → Contains ops b → operation_order ops d 1 writes a b ≡ Less → StandsBefore (records_of sorted) a.rec b.rec
+    less_stands_before a b ca cb less =
+        let ma = Contains-permutation ops sorted a each ca in
+        let mb = Contains-permutation ops sorted b each cb in
+        let ati = at_its_place sorted a ma in
+        let atj = at_its_place sorted b mb in
+        elim (cases_lt ma.0 mb.0) [
+          | inl low ↦ record { place = ma.0; later = mb.0; rises = low; first = record_at sorted ma.0 a ati; second = record_at sorted mb.0 b atj }
+          | inr high ↦ absurd (not_less_later mb.0 ma.0 b a atj ati high less)
+        ]
+
+    -- so the operation of a record that stands at a place stands there
+    pub operation_at : RecordsDiffer ops → (i rec : ℕ) (a : Op) → Contains ops a → a.rec ≡ rec → StandsAt (records_of sorted) i rec → StandsAt sorted i a
+    operation_at differ i rec a there is at =
+        let long = slice_get_within (records_of sorted) i rec at in
+        let (b, at_b) = something_at sorted i (simp length-map at long) in
+        let same : b.rec ≡ a.rec = same_at (records_of sorted) i b.rec rec (record_at sorted i b at_b) at ∙ sym is in
+        let e : b ≡ a = differ b a (Contains-permutation sorted ops b (IsPermutation-sym ops sorted each) (contains_at sorted i b at_b)) there same in
+        rw e at at_b

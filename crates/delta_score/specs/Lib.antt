@@ -1,0 +1,4 @@
+pub mod WriteLists
+pub mod ZoneLaws
+pub mod Scores
+pub mod Ranks

@@ -1,0 +1,72 @@
+-- The zone theorem (Gibbons and Korach 1997), where reads are taken to start d earlier (Golab, Li and Shah 2011).
+use Rattle.std.specs.Prelude.{ℕ, ◌≢◌, ◌<◌, ◌↔◌, List, Contains}
+use Rattle.std.specs.List.Sorted.{IsPermutation}
+use Rattle.stale_model.specs.declared.Op.{Op}
+use Rattle.stale_model.specs.declared.KeyOps.{KeyOps}
+use Rattle.stale_model.specs.declared.Cluster.{Cluster}
+use Rattle.stale_model.specs.Operations.{operations, IsValidKey}
+use Rattle.stale_model.specs.Faults.{HasNone, IsEarly, IsMatchedKey, IsClearKey}
+use Rattle.stale_model.specs.Clusters.{writes_of, AreClusters}
+use Rattle.stale_model.specs.NamedWrites.{NamesItsWrites}
+use Rattle.stale_model.specs.Precedence.{Precedes}
+use Rattle.stale_model.specs.Orders.{ListsEachOnce, IsOrder}
+use Rattle.stale_model.specs.LeastDelta.{HasOrder}
+use Rattle.stale_model.specs.Zones.{last_start, AreInConflict, HasNoConflict, IsZoneOrder, HasNoCrossing, IsPair, four_of}
+use Rattle.stale_model.specs.OperationOrders.{IsOperationOrder}
+use Rattle.stale_model.specs.Refutations.{IsOfCluster}
+use Rattle.stale_model.specs.Judgements.{FourHold}
+use Rattle.delta_score.specs.WriteLists.{write_records}
+
+-- some operation of the cluster i precedes some operation of the cluster j at d
+pub record SomePrecedes (ops : List Op) (d : ℕ) (i j : Cluster) : Type 0 where
+  pub a : Op
+  pub b : Op
+  pub a_is : IsOfCluster ops i.write a
+  pub b_is : IsOfCluster ops j.write b
+  pub precedes : Precedes d a b
+
+-- some operation of a cluster i precedes some operation of a cluster j at d exactly where f of i is less than s of j at d
+abbrev pub ClustersPrecedeByBounds : Type 0
+ClustersPrecedeByBounds = (ops : List Op) (d : ℕ) (clusters : List Cluster) (i j : Cluster) → NamesItsWrites ops → AreClusters ops clusters
+    → Contains clusters i → Contains clusters j → SomePrecedes ops d i j ↔ (i.f < last_start d j)
+
+-- the four records of two clusters in conflict at d hold at d
+abbrev pub ConflictsShowFour : Type 0
+ConflictsShowFour = (ops : List Op) (d : ℕ) (clusters : List Cluster) (i j : Cluster) → NamesItsWrites ops → AreClusters ops clusters
+    → Contains clusters i → Contains clusters j → i.write ≢ j.write → AreInConflict d i j → FourHold ops d (four_of d i j)
+
+-- the four records of the pair at d hold at d
+abbrev pub PairsShowFour : Type 0
+PairsShowFour = (ops : List Op) (d : ℕ) (clusters zones : List Cluster) (i j : Cluster) → NamesItsWrites ops → AreClusters ops clusters
+    → IsZoneOrder d clusters zones → IsPair d zones i j → FourHold ops d (four_of d i j)
+
+-- no read is early, and no two of the clusters conflict at d
+pub record IsConflictFree (ops : List Op) (d : ℕ) (clusters : List Cluster) : Type 0 where
+  pub no_early : HasNone (IsEarly ops)
+  pub no_conflict : HasNoConflict d clusters
+
+-- where there is an order with k = 1 at d, no read is early and no two clusters conflict at d
+abbrev pub OrdersExcludeConflicts : Type 0
+OrdersExcludeConflicts = (key : KeyOps) (d : ℕ) (clusters : List Cluster) → IsValidKey key → IsMatchedKey (operations key)
+    → AreClusters (operations key) clusters → HasOrder (operations key) d 1 → IsConflictFree (operations key) d clusters
+
+-- where no two clusters conflict at d, none crosses an earlier one of the zone order
+abbrev pub ZoneOrdersHaveNoCrossing : Type 0
+ZoneOrdersHaveNoCrossing = (ops : List Op) (d : ℕ) (clusters zones : List Cluster) → AreClusters ops clusters → HasNoConflict d clusters
+    → IsZoneOrder d clusters zones → HasNoCrossing d zones
+
+-- where none of the zones crosses an earlier one at d, the operations in the order of the zones are an order with k = 1 at d
+abbrev pub ZoneOrdersAreOrders : Type 0
+ZoneOrdersAreOrders = (key : KeyOps) (d : ℕ) (clusters zones : List Cluster) (order : List ℕ) → IsValidKey key → IsClearKey (operations key)
+    → AreClusters (operations key) clusters → IsPermutation clusters zones → HasNoCrossing d zones
+    → IsOperationOrder (operations key) d 1 (writes_of zones) order → IsOrder (operations key) d 1 order
+
+-- the clusters, in any order, list each write once
+abbrev pub ClustersListWrites : Type 0
+ClustersListWrites = (ops : List Op) (clusters zones : List Cluster) → AreClusters ops clusters → IsPermutation clusters zones
+    → ListsEachOnce (write_records ops) (writes_of zones)
+
+-- there is an order with k = 1 at d exactly where no read is early and no two clusters conflict at d
+abbrev pub ZoneTheorem : Type 0
+ZoneTheorem = (key : KeyOps) (d : ℕ) (clusters : List Cluster) → IsValidKey key → IsMatchedKey (operations key) → AreClusters (operations key) clusters
+    → HasOrder (operations key) d 1 ↔ IsConflictFree (operations key) d clusters

@@ -1,0 +1,20 @@
+//! How stale a key's reads got: the score of a pair of clusters, the least d at which no two clusters are in conflict
+//! (Golab, Li and Shah 2011), the order of operations that shows it, and the zone theorem (Gibbons and Korach 1997).
+#![tactic(auto)]
+
+mod least;
+mod order;
+mod score;
+mod zone_laws;
+
+pub use least::{Least, least_delta};
+pub use order::op_order;
+pub use score::pair_score;
+pub use zone_laws::{
+    clusters_list_writes, clusters_precede_by_bounds, conflicts_show_four,
+    orders_exclude_conflicts, pairs_show_four, zone_orders_are_orders,
+    zone_orders_have_no_crossing, zone_theorem,
+};
+
+#[cfg(test)]
+mod tests;

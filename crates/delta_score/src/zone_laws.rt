@@ -1,0 +1,48 @@
+//! The zone theorem (Gibbons and Korach 1997) in both directions, and the laws that it rests on, as functions whose
+//! contracts are all that they are for.
+
+ghost use Rattle.delta_score.specs.ZoneLaws.{ClustersPrecedeByBounds, ConflictsShowFour, PairsShowFour, OrdersExcludeConflicts, ZoneOrdersHaveNoCrossing, ZoneOrdersAreOrders, ClustersListWrites, ZoneTheorem};
+
+/// Some operation of a cluster i precedes some operation of a cluster j at d exactly where f of i is less than s of j
+/// at d.
+pub fn clusters_precede_by_bounds()
+    ensures { ClustersPrecedeByBounds }
+{}
+
+/// The four records of two clusters in conflict at d hold at d.
+pub fn conflicts_show_four()
+    ensures { ConflictsShowFour }
+{}
+
+/// The four records of the pair of the zone order at d hold at d.
+pub fn pairs_show_four()
+    ensures { PairsShowFour }
+{}
+
+/// Where there is an order at d in which each read returns the last write, no read is early and no two clusters
+/// conflict at d.
+pub fn orders_exclude_conflicts()
+    ensures { OrdersExcludeConflicts }
+{}
+
+/// Where no two clusters conflict at d, no operation of a cluster precedes one of an earlier cluster of the zone order.
+pub fn zone_orders_have_no_crossing()
+    ensures { ZoneOrdersHaveNoCrossing }
+{}
+
+/// Where no operation of a cluster precedes one of an earlier cluster at d, the operations in the order of the clusters
+/// are an order at d in which each read returns the last write.
+pub fn zone_orders_are_orders()
+    ensures { ZoneOrdersAreOrders }
+{}
+
+/// The clusters of a key, in any order, list each of its writes once, as [`op_order`](crate::op_order) takes them.
+pub fn clusters_list_writes()
+    ensures { ClustersListWrites }
+{}
+
+/// The zone theorem of Gibbons and Korach (1997), at d: there is an order in which each read returns the last write
+/// exactly where no read is early and no two clusters conflict.
+pub fn zone_theorem()
+    ensures { ZoneTheorem }
+{}
