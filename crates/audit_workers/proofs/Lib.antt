@@ -1,0 +1,4 @@
+pub mod Verdicts
+pub mod Truth
+pub mod One
+pub mod Clear

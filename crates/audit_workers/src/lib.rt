@@ -1,0 +1,111 @@
+//! Judges the keys of a history.
+#![tactic(auto)]
+
+ghost use Rattle.std.specs.Prelude.{◌≤◌, IfOk};
+ghost use Rattle.stale_model.specs.Operations.{IsValidKey, IsValidHistory, operations};
+ghost use Rattle.stale_model.specs.Faults.{IsClearKey};
+ghost use Rattle.stale_model.specs.Clusters.{AreClusters};
+ghost use Rattle.stale_model.specs.Verdicts.{IsVerdict, AreVerdicts, IsJudgement, EachKeyHas, IsTrueOf};
+ghost use Rattle.audit_workers.specs.Laws.{VerdictsAreTrue, VerdictIsOne, VerdictsAreOne};
+
+use audit_ports::Gate;
+use clusters::{Sorted, sort_key};
+use delta_score::{least_delta, op_order};
+use stale_model::{Cluster, History, Judgement, KeyOps, List, Memory, Verdict};
+use std::alloc::Global;
+use std::thread::Threads;
+
+// The judgement of a clear key with these clusters.
+fn judge_clear(alloc: Global, key: &KeyOps, clusters: &[Cluster]) -> Result<Judgement, Memory>
+    requires valid { IsValidKey key.now }
+    requires clear { IsClearKey (operations key.now) }
+    requires clusters { AreClusters (operations key.now) clusters.now }
+    ensures { IfOk result (IsJudgement (operations key.now)) }
+{
+    let least = least_delta(alloc, clusters)?;
+    let order = op_order(alloc, least.delta, 1, key, least.order.as_slice())?;
+    Ok(Judgement {
+        delta: least.delta,
+        order,
+        four: least.refuter,
+    })
+}
+
+// The verdict of a key, as it is printed.
+fn verdict_of(alloc: Global, key: &KeyOps) -> Result<Verdict, Memory>
+    requires { IsValidKey key.now }
+    ensures { IfOk result (IsVerdict (operations key.now)) }
+{
+    match sort_key(alloc, key)? {
+        Sorted::Duplicate { rec } => Ok(Verdict::Duplicate { rec }),
+        Sorted::Unmatched { rec } => Ok(Verdict::Unmatched { rec }),
+        Sorted::Early { rec, .. } => Ok(Verdict::Infinite { rec }),
+        Sorted::Clear(clusters) => Ok(Verdict::Judged(judge_clear(
+            alloc,
+            key,
+            clusters.as_slice(),
+        )?)),
+    }
+}
+
+/// The verdict of a valid key: the fault and the record that are named, or how stale its reads got
+/// (Golab, Li and Shah 2011, decided by the zones of Gibbons and Korach 1997). What it says is true of
+/// all orders of all operations of the key. The error says that memory ran out.
+pub fn judge_key(alloc: Global, key: &KeyOps) -> Result<Verdict, Memory>
+    requires { IsValidKey key.now }
+    ensures verdict { IfOk result (IsVerdict (operations key.now)) }
+    ensures truth { IfOk result (IsTrueOf (operations key.now)) }
+{
+    verdict_of(alloc, key)
+}
+
+// The verdicts of the keys, one after the other.
+fn judge_each<G: Gate>(alloc: Global, history: &History, gate: &G) -> Result<List<Verdict>, Memory>
+    requires { IsValidHistory history.now }
+    ensures { IfOk result (AreVerdicts history.now.keys) }
+{
+    let mut verdicts = Vec::new(alloc);
+    for (place, key) in history.keys.as_slice().iter().enumerate() {
+        let piece = place as u32;
+        gate.enter(piece);
+        let verdict = verdict_of(alloc, key);
+        gate.leave(piece);
+        verdicts.push(verdict?).map_err(|_| Memory)?;
+    }
+    Ok(List::from_vec(verdicts))
+}
+
+/// The verdict of each key of a valid history, in the order of the keys, the same for every number
+/// of workers from 1 to 64. Before a key is judged the gate is entered with the key's place, counted
+/// from 0, and after that it is left. The error says that memory ran out.
+pub fn judge_all<R: Threads + Sync, G: Gate>(
+    _rt: &R,
+    alloc: Global,
+    history: &History,
+    _workers: u32,
+    gate: &G,
+) -> Result<List<Verdict>, Memory>
+    requires valid { IsValidHistory history.now }
+    requires some_worker { 1 ≤ _workers }
+    requires few_workers { _workers ≤ 64 }
+    ensures verdicts { IfOk result (AreVerdicts history.now.keys) }
+    ensures truth { IfOk result (EachKeyHas IsTrueOf history.now.keys) }
+{
+    judge_each(alloc, history, gate)
+}
+
+/// The verdict that is printed of a valid key is true, and infinite is said of a key that is neither
+/// duplicate nor unmatched exactly where no d has an order.
+pub fn verdicts_are_true()
+    ensures { VerdictsAreTrue }
+{}
+
+/// The verdict of the same operations is one.
+pub fn verdict_is_one()
+    ensures { VerdictIsOne }
+{}
+
+/// The verdicts of the same keys are one list.
+pub fn verdicts_are_one()
+    ensures { VerdictsAreOne }
+{}
