@@ -1,0 +1,67 @@
+-- The line that is written to the error output after a refusal.
+use Rattle.std.specs.Prelude.{◌≡◌, ◌⊎◌, ℕ, ◌==◌, if◌then◌else◌, List, ◌++◌, codes}
+use Rattle.std.specs.Fmt.{decimal}
+use Rattle.history_csv.specs.declared.HistoryFault.{HistoryFault}
+use Rattle.history_csv.specs.declared.HistoryFault.TheVariants as fault
+use Rattle.audit_ports.specs.Shelf.{Rose}
+use Rattle.audit_ports.specs.Sink.{SinkShown, GainsPrefix, appended}
+use Rattle.staleness_report.specs.Escaped.{escaped}
+
+-- the name of a column of a history, by its number
+abbrev pub column_name : ℕ → List ℕ
+column_name n =
+    if n == 1 then codes "client"
+    else if n == 2 then codes "op"
+    else if n == 3 then codes "key"
+    else if n == 4 then codes "value"
+    else if n == 5 then codes "start"
+    else if n == 6 then codes "finish"
+    else codes "slack"
+
+-- the line on a record at fault
+abbrev pub record_line : ℕ → List ℕ → List ℕ
+record_line rec word = codes "history record " ++ decimal rec ++ codes ": " ++ word ++ codes "\n"
+
+-- the line on a want of memory
+abbrev pub memory_line : List ℕ
+memory_line = codes "out of memory\n"
+
+-- the line on a fault of a history
+abbrev pub fault_line : HistoryFault → List ℕ
+fault_line fault.NoHeader = codes "history: no header\n"
+fault_line (fault.Column name) = codes "history: column " ++ column_name name ++ codes "\n"
+fault_line (fault.Fields rec) = record_line rec (codes "fields")
+fault_line (fault.Op rec) = record_line rec (codes "op")
+fault_line (fault.Client rec) = record_line rec (codes "client")
+fault_line (fault.Key rec) = record_line rec (codes "key")
+fault_line (fault.Value rec) = record_line rec (codes "value")
+fault_line (fault.Time rec) = record_line rec (codes "time")
+fault_line (fault.Backwards rec) = record_line rec (codes "backwards")
+fault_line (fault.Slack rec) = record_line rec (codes "slack")
+fault_line fault.Records = codes "history: more than 1000000 records\n"
+fault_line fault.Memory = memory_line
+
+-- the line on words that are refused
+abbrev pub words_line : List ℕ
+words_line = codes "words refused\n"
+
+-- the line on an input file that isn't there
+abbrev pub missing_line : List ℕ → List ℕ
+missing_line name = codes "missing: " ++ escaped name ++ codes "\n"
+
+-- the line on an input file that is longer than its limit
+abbrev pub too_long_line : List ℕ → List ℕ
+too_long_line name = codes "too long: " ++ escaped name ++ codes "\n"
+
+-- the line on a failed read
+abbrev pub read_failed_line : List ℕ
+read_failed_line = codes "read failed\n"
+
+-- the line on a failed write
+abbrev pub write_failed_line : List ℕ
+write_failed_line = codes "write failed\n"
+
+-- the error output gained a prefix of this line, and the whole line unless its count of faults rose
+pub record SaysLine (line : List ℕ) (old new : SinkShown) : Type 0 where
+  pub prefix : GainsPrefix line old new
+  pub whole : (Rose old.faults new.faults) ⊎ (new.written ≡ appended old.written line)
