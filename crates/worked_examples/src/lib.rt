@@ -1,0 +1,14 @@
+//! Worked examples: tables of command lines over files in memory, each with the status and the outputs that it must
+//! give. This crate is tests alone.
+#![tactic(auto)]
+
+#[cfg(test)]
+mod harness;
+#[cfg(test)]
+mod judgements;
+#[cfg(test)]
+mod outside;
+#[cfg(test)]
+mod reading;
+#[cfg(test)]
+mod verdicts;
