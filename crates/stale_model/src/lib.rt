@@ -207,6 +207,8 @@ pub struct Judgement {
     pub order: List<u32>,
     /// Why there is none at `delta` - 1; none where `delta` is 0.
     pub four: Option<Four>,
+    /// Whether the key is 2-atomic, where reads are taken as they are.
+    pub two: TwoPart,
 }
 
 /// What is said of a key.
