@@ -15,7 +15,7 @@ use Rattle.model_laws.proofs.OrderPlaces.{reads_or_writes}
 use Rattle.delta_score.specs.ZoneLaws.{SomePrecedes, ClustersPrecedeByBounds, ConflictsShowFour}
 
 -- no read of a cluster starts later than the greatest start of its reads
-reads_start_by : (ops : List Op) (w r : Op) (s : Option ℕ) (last : ℕ) → AreReadsOf ops w s last → IsReadOf ops w.value r → earliest_start r ≤ unwrap_or s 0
+pub reads_start_by : (ops : List Op) (w r : Op) (s : Option ℕ) (last : ℕ) → AreReadsOf ops w s last → IsReadOf ops w.value r → earliest_start r ≤ unwrap_or s 0
 reads_start_by ops w r None last reads is = absurd (reads.none r is)
 reads_start_by ops w r (Some s) last reads is = reads.greatest r is
 

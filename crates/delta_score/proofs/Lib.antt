@@ -4,12 +4,17 @@ pub mod Excluded
 pub mod Once
 pub mod Segments
 pub mod SortedPlaces
+pub mod Returned
 pub mod Ordered
+pub mod Late
+pub mod ListingOrders
 pub mod SortedPermutation
 pub mod Crossings
 pub mod Theorem
 pub mod LeastBounds
 pub mod ListedWrites
 pub mod Placing
+pub mod Finishes
+pub mod Tables
 pub mod Lookup
 pub mod Ranked

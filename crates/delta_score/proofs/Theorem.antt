@@ -16,7 +16,7 @@ zone_theorem key d clusters valid matched are = (
   λ has. orders_exclude_conflicts key d clusters valid matched are has,
   λ conflict_free.
       let zones = sorts_to (zone_order d) (zone_order_total d) clusters in
-      let order = sorts_to (operation_order (operations key) d 1 (writes_of zones.sorted)) (order_total (operations key) d (writes_of zones.sorted)) (operations key) in
+      let order = sorts_to (operation_order (operations key) d 1 (writes_of zones.sorted)) (order_total (operations key) d 1 (writes_of zones.sorted)) (operations key) in
       let free = zone_orders_have_no_crossing (operations key) d clusters zones.sorted are conflict_free.no_conflict (record { each_once = zones.each_once; sorted = zones.in_order }) in (
         records_of order.sorted,
         zone_orders_are_orders key d clusters zones.sorted (records_of order.sorted) valid (record { matched = matched; no_early = conflict_free.no_early }) are zones.each_once free

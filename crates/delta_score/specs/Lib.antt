@@ -1,4 +1,5 @@
 pub mod WriteLists
 pub mod ZoneLaws
+pub mod ListingLaws
 pub mod Scores
 pub mod Ranks

@@ -7,6 +7,7 @@ use Rattle.stale_model.specs.declared.Cluster.{Cluster}
 use Rattle.stale_model.specs.Operations.{is_write, records_of}
 use Rattle.stale_model.specs.Clusters.{AreClusters, writes_of}
 use Rattle.stale_model.specs.Zones.{HasNoCrossing}
+use Rattle.stale_model.specs.Listings.{IsListing}
 
 -- the record of each write
 abbrev pub write_records : List Op → List ℕ
@@ -20,3 +21,11 @@ pub record AreUncrossedWrites (ops : List Op) (d : ℕ) (writes : List ℕ) : Ty
   pub each_once : IsPermutation clusters zones
   pub no_crossing : HasNoCrossing d zones
   pub writes_are : writes ≡ writes_of zones
+
+-- the write records are those of the clusters, in the order of a listing at d
+pub record AreListedWrites (ops : List Op) (d : ℕ) (writes : List ℕ) : Type 0 where
+  pub clusters : List Cluster
+  pub listing : List Cluster
+  pub are : AreClusters ops clusters
+  pub is_listing : IsListing d clusters listing
+  pub writes_are : writes ≡ writes_of listing
