@@ -1,0 +1,4 @@
+pub mod Links
+pub mod Lists
+pub mod TwoLaws
+pub mod Steps

@@ -1,0 +1,95 @@
+-- The steps of chains, rounds and epochs over places.
+use Rattle.std.specs.Prelude.{◌≡◌, ℕ, ◌-◌, ◌^◌, ◌<◌, ◌++◌, [], ◌∷◌, min, nat_lt, if◌then◌else◌, List, map, length, Option, Some, None, All, Contains}
+use Rattle.stale_model.specs.declared.Cluster.{Cluster}
+use Rattle.stale_model.specs.declared.Try.{Try}
+use Rattle.stale_model.specs.Chains.{without, demand, Demand, nothing, one, impossible, chain, Chain, ends, fails, cut, Round, removes, repeats, refutes, writes_of}
+use Rattle.stale_model.specs.Orders.{IsWithoutRepeats}
+use Rattle.lbt_epochs.specs.Lists.{Lists, with_placed, left, cluster_at, AreListsOf}
+use Rattle.lbt_epochs.specs.declared.two.Asked.{Asked}
+use Rattle.lbt_epochs.specs.declared.two.Asked.TheVariants.{Nothing, One, Impossible}
+use Rattle.lbt_epochs.specs.declared.two.Ran.{Ran}
+use Rattle.lbt_epochs.specs.declared.two.Tried.{Tried}
+use Rattle.lbt_epochs.specs.declared.two.Found.{Found}
+use Rattle.lbt_epochs.specs.declared.two.Found.TheVariants.{Removes, Repeats, Refutes}
+
+-- the clusters that are not placed, in candidate order
+abbrev pub clusters_left : List Cluster → Lists → List Cluster
+clusters_left clusters lists = map (cluster_at clusters) (left lists.placed lists.candidates)
+
+-- the lists are those of the clusters, whose write records differ
+pub record IsReady (clusters : List Cluster) (lists : Lists) : Type 0 where
+  pub lists_are : AreListsOf clusters lists
+  pub differ : IsWithoutRepeats (writes_of clusters)
+
+-- x, where it starts after this tick
+abbrev pub if_late : {X : Type 0} → (X → ℕ) → ℕ → Option X → Option X
+if_late start bound None = None
+if_late start bound (Some x) = if nat_lt bound (start x) then Some x else None
+
+-- the demand that this stands for
+abbrev pub as_demand : List Cluster → Asked → Demand
+as_demand clusters Nothing = nothing
+as_demand clusters (One at) = one (cluster_at clusters at)
+as_demand clusters (Impossible end) = impossible end
+
+-- what the cluster at a place asks of those not placed, of which the one that it asks for is one
+pub record IsAsked (d : ℕ) (clusters : List Cluster) (lists : Lists) (at : ℕ) (asked : Asked) : Type 0 where
+  pub demand_is : demand d (cluster_at clusters at) (clusters_left clusters lists) ≡ as_demand clusters asked
+  pub there : (next : ℕ) → asked ≡ One next → Contains (left lists.placed lists.candidates) next
+
+-- the chain of the cluster at a place among the others not placed
+abbrev pub chain_at : ℕ → List Cluster → ℕ → ℕ → Lists → Chain
+chain_at d clusters room at lists = chain d room (cluster_at clusters at) (without (clusters_left clusters lists) (cluster_at clusters at ∷ []))
+
+-- the chain of these clusters that ran so
+abbrev pub as_chain : List Cluster → Ran → Chain
+as_chain clusters Ran.Ends = ends clusters
+as_chain clusters (Ran.Fails end) = fails clusters end
+as_chain clusters Ran.Cut = cut
+
+-- the chain of the cluster at a place ran so, and what it placed stays placed
+pub record IsRun (d : ℕ) (clusters : List Cluster) (room at : ℕ) (old new : Lists) (ran : Ran) : Type 0 where
+  pub places : List ℕ
+  pub placed : new ≡ with_placed old (old.placed ++ places)
+  pub within : All (λ place. place < length clusters) places
+  pub chain_is : chain_at d clusters room at old ≡ as_chain (map (cluster_at clusters) places) ran
+
+-- the chain failed with this try, and nothing more is placed than before
+pub record HasFailed (chain : Chain) (old new : Lists) (try : Try) : Type 0 where
+  pub kept : new ≡ old
+  pub clusters : List Cluster
+  pub fails_so : chain ≡ fails clusters try.end
+  pub writes_are : try.chain ≡ writes_of clusters
+
+-- the chain was cut, and nothing more is placed than before
+pub record IsCut (chain : Chain) (old new : Lists) : Type 0 where
+  pub kept : new ≡ old
+  pub cut_so : chain ≡ cut
+
+-- the candidate at a place fared so
+abbrev pub IsTried : ℕ → List Cluster → ℕ → ℕ → Lists → Lists → Tried → Type 0
+IsTried d clusters room at old new Tried.Ends = IsRun d clusters room at old new Ran.Ends
+IsTried d clusters room at old new (Tried.Fails try) = HasFailed (chain_at d clusters room at old) old new try
+IsTried d clusters room at old new Tried.Cut = IsCut (chain_at d clusters room at old) old new
+
+-- the round removes the chain of these places, which stays placed
+pub record HasRemoved (clusters : List Cluster) (round : Round) (old new : Lists) : Type 0 where
+  pub places : List ℕ
+  pub placed : new ≡ with_placed old (old.placed ++ places)
+  pub within : All (λ place. place < length clusters) places
+  pub round_is : round ≡ removes (map (cluster_at clusters) places)
+
+-- the round is this one, and nothing more is placed than before
+pub record HasKept (round is : Round) (old new : Lists) : Type 0 where
+  pub kept : new ≡ old
+  pub round_is : round ≡ is
+
+-- the round went so
+abbrev pub IsFound : List Cluster → Round → Lists → Lists → Found → Type 0
+IsFound clusters round old new Removes = HasRemoved clusters round old new
+IsFound clusters round old new Repeats = HasKept round repeats old new
+IsFound clusters round old new (Refutes tries) = HasKept round (refutes tries) old new
+
+-- how many clusters a chain has at most after its first in this round: no fewer than there are, where there are fewer than 2^32
+abbrev pub room_in : ℕ → ℕ
+room_in round = 2 ^ min round 32 - 1
