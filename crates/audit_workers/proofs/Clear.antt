@@ -13,6 +13,8 @@ use Rattle.stale_model.specs.Clusters.{AreClusters}
 use Rattle.stale_model.specs.Orders.{ListsEachOnce}
 use Rattle.stale_model.specs.OperationOrders.{IsOperationOrder}
 use Rattle.stale_model.specs.Verdicts.{IsJudgement, IsFour}
+use Rattle.stale_model.specs.Printed.{IsPrintedTwo}
+use Rattle.stale_model.specs.declared.TwoPart.{TwoPart}
 use Rattle.zones.specs.Sweeps.{IsOrderOf}
 use Rattle.model_laws.proofs.Named.{matched_keys_name_their_writes}
 use Rattle.model_laws.proofs.OrderPlaces.{reads_or_writes}
@@ -58,14 +60,15 @@ module _ (ops : List Op) (clusters : List Cluster) (are : AreClusters ops cluste
   four_printed delta None none = none
   four_printed delta (Some four) (above, is) = (above, record { zones = is.pair.zones; zone_order = is.pair.zone_order; i = is.i; j = is.j; pair = is.pair.pair; four_is = is.four_is })
 
-  -- the least delta and the order of operations at it are the judgement
-  pub judged : IsClearKey ops → (least : Least) (order : List ℕ) → IsLeast clusters least → IsOperationOrder ops least.delta 1 least.order order
-      → IsJudgement ops (record { delta = least.delta; order = order; four = least.refuter })
-  judged clear least order is in_order = record {
+  -- the least delta, the order of operations at it and the part on 2-atomicity are the judgement
+  pub judged : IsClearKey ops → (least : Least) (order : List ℕ) (two : TwoPart) → IsLeast clusters least → IsOperationOrder ops least.delta 1 least.order order
+      → IsPrintedTwo ops clusters two → IsJudgement ops (record { delta = least.delta; order = order; four = least.refuter; two = two })
+  judged clear least order two is in_order is_two = record {
     clear = clear;
     clusters = clusters;
     are = are;
     no_conflict = is.delta.apart;
     order = record { zones = is.order.zones; zone_order = is.order.zone_order; operation_order = subst (λ (writes : List ℕ). IsOperationOrder ops least.delta 1 writes order) is.order.writes in_order };
     four = four_printed least.delta least.refuter is.refuter;
+    two = is_two;
   }

@@ -2,3 +2,4 @@ pub mod Verdicts
 pub mod Truth
 pub mod One
 pub mod Clear
+pub mod Listed

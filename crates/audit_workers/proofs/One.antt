@@ -1,5 +1,5 @@
 -- The verdicts of keys are one.
-use Rattle.std.proofs.Common.{◌≡◌, ℕ, suc, List, [], ◌∷◌, Option, Some, None, refl, sym, ◌∙◌, ap, subst, arith}
+use Rattle.std.proofs.Common.{◌≡◌, ℕ, suc, List, [], ◌∷◌, Option, Some, None, refl, sym, ap, subst, arith}
 use Rattle.stale_model.specs.declared.Cluster.{Cluster}
 use Rattle.stale_model.specs.declared.Four.{Four}
 use Rattle.stale_model.specs.declared.Judgement.{Judgement}
@@ -8,10 +8,10 @@ use Rattle.stale_model.specs.declared.Verdict.{Verdict}
 use Rattle.stale_model.specs.declared.Verdict.TheVariants.{Duplicate, Unmatched, Infinite, Judged}
 use Rattle.stale_model.specs.Operations.{operations, IsValidKey}
 use Rattle.stale_model.specs.Faults.{IsDuplicate, IsUnmatched, IsEarly}
-use Rattle.stale_model.specs.Printed.{IsPrintedOrder, IsPrintedFour}
+use Rattle.stale_model.specs.Printed.{IsPrintedOrder, IsPrintedFour, IsPrintedTwo}
 use Rattle.stale_model.specs.Verdicts.{AreVerdicts, IsJudgement, IsFour}
 use Rattle.model_laws.proofs.Named.{matched_keys_name_their_writes}
-use Rattle.model_laws.proofs.One.{least_deltas_are_one, printed_orders_are_one, printed_fours_are_one}
+use Rattle.model_laws.proofs.One.{least_deltas_are_one, printed_orders_are_one, printed_fours_are_one, printed_twos_are_one}
 use Rattle.model_laws.proofs.ClustersOne.{clusters_are_one, cluster_writes_differ, valid_records_differ}
 use Rattle.clusters.proofs.Unique.{same_record, not_none}
 use Rattle.audit_workers.specs.Laws.{VerdictIsOne, VerdictsAreOne}
@@ -25,10 +25,8 @@ four_is_one clusters delta (Some x) None one (above, p) q = absurd (omega arith)
 four_is_one clusters delta (Some x) (Some y) one (above, p) (more, q) = ap Some (one _ x y p q)
 
 -- a judgement by its parts
-same_judgement : (x y : Judgement) → x.delta ≡ y.delta → x.order ≡ y.order → x.four ≡ y.four → x ≡ y
-same_judgement x y p q r =
-    let made : ℕ → List ℕ → Option Four → Judgement = λ d o f. record { delta = d; order = o; four = f } in
-    ap (λ (d : ℕ). made d x.order x.four) p ∙ ap (λ (o : List ℕ). made y.delta o x.four) q ∙ ap (λ (f : Option Four). made y.delta y.order f) r
+same_judgement : (x y : Judgement) → x.delta ≡ y.delta → x.order ≡ y.order → x.four ≡ y.four → x.two ≡ y.two → x ≡ y
+same_judgement x y p q r s = λ i. record { delta = p i; order = q i; four = r i; two = s i }
 
 judgement_is_one : (key : KeyOps) (x y : Judgement) → IsValidKey key → IsJudgement (operations key) x → IsJudgement (operations key) y → x ≡ y
 judgement_is_one key x y valid p q =
@@ -39,8 +37,10 @@ judgement_is_one key x y valid p q =
     let differ = cluster_writes_differ ops p.clusters p.are in
     let order = subst (λ (d : ℕ). IsPrintedOrder ops p.clusters d y.order) (sym delta) (subst (λ (cs : List Cluster). IsPrintedOrder ops cs y.delta y.order) clusters q.order) in
     let four = subst (λ (d : ℕ). IsFour p.clusters d y.four) (sym delta) (subst (λ (cs : List Cluster). IsFour cs y.delta y.four) clusters q.four) in
+    let two = subst (λ (cs : List Cluster). IsPrintedTwo ops cs y.two) clusters q.two in
     same_judgement x y delta (printed_orders_are_one ops p.clusters x.delta x.order y.order (valid_records_differ key valid) differ p.order order)
     (four_is_one p.clusters x.delta x.four y.four (λ d a b. printed_fours_are_one p.clusters d a b differ) p.four four)
+    (printed_twos_are_one ops p.clusters x.two y.two (valid_records_differ key valid) differ p.two two)
 
 pub verdict_is_one : VerdictIsOne
 verdict_is_one key (Duplicate x) (Duplicate y) valid p q = ap Duplicate (same_record (IsDuplicate (operations key)) x y p q)

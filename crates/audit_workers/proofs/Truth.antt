@@ -12,6 +12,7 @@ use Rattle.stale_model.specs.Operations.{operations, IsValidKey}
 use Rattle.stale_model.specs.Faults.{IsDuplicate, IsUnmatched}
 use Rattle.stale_model.specs.Clusters.{AreClusters}
 use Rattle.stale_model.specs.NamedWrites.{NamesItsWrites}
+use Rattle.stale_model.specs.LeastDelta.{HasNoDelta}
 use Rattle.stale_model.specs.Judgements.{FourHold, FourShow, ShowsDelta}
 use Rattle.stale_model.specs.Printed.{IsPrintedFour}
 use Rattle.stale_model.specs.Verdicts.{IsJudgement, IsFour, IsAtomicFrom, IsTrueOf, AreVerdicts, EachKeyHas}
@@ -22,6 +23,7 @@ use Rattle.delta_score.proofs.Ordered.{zone_orders_are_orders}
 use Rattle.delta_score.proofs.Crossings.{pairs_show_four, zone_orders_have_no_crossing}
 use Rattle.clusters.proofs.Unique.{not_none}
 use Rattle.audit_workers.specs.Laws.{VerdictsAreTrue}
+use Rattle.audit_workers.proofs.Listed.{two_holds}
 
 module _ (key : KeyOps) (valid : IsValidKey key) where
   -- the records of a pair show that there is no order at d
@@ -49,6 +51,7 @@ judgement_is_true key judgement valid h =
       matched = h.clear.matched;
       least = shown_deltas_are_least (operations key) judgement.delta judgement.order judgement.four (matched_keys_name_their_writes key valid h.clear.matched) shows;
       shows = shows;
+      two = two_holds key h.clusters judgement.two valid h.clear h.are h.two;
     }
 
 pub verdicts_are_true : VerdictsAreTrue
@@ -62,8 +65,8 @@ verdicts_are_true key (Unmatched rec) valid h = record {
 }
 verdicts_are_true key (Infinite rec) valid h =
     let (a, early, rec_is) = h.early.at in
-    let none = early_reads_exclude_orders (operations key) 1 a early in
-    record { holds = record { matched = h.matched; no_delta = none }; infinite = λ matched. (λ infinite. none, λ none. tt) }
+    let none : (k : ℕ) → HasNoDelta (operations key) k = λ k. early_reads_exclude_orders (operations key) k a early in
+    record { holds = record { matched = h.matched; no_delta = none }; infinite = λ matched. (λ infinite. none 1, λ none. tt) }
 verdicts_are_true key (Judged judgement) valid h =
     let holds = judgement_is_true key judgement valid h in
     record { holds = holds; infinite = λ matched. (λ never. absurd never, λ none. absurd (none judgement.delta judgement.order holds.shows.atomic)) }

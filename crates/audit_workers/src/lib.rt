@@ -5,15 +5,30 @@ ghost use Rattle.std.specs.Prelude.{◌≤◌, IfOk};
 ghost use Rattle.stale_model.specs.Operations.{IsValidKey, IsValidHistory, operations};
 ghost use Rattle.stale_model.specs.Faults.{IsClearKey};
 ghost use Rattle.stale_model.specs.Clusters.{AreClusters};
+ghost use Rattle.stale_model.specs.Printed.{IsPrintedTwo};
 ghost use Rattle.stale_model.specs.Verdicts.{IsVerdict, AreVerdicts, IsJudgement, EachKeyHas, IsTrueOf};
 ghost use Rattle.audit_workers.specs.Laws.{VerdictsAreTrue, VerdictIsOne, VerdictsAreOne};
 
 use audit_ports::Gate;
 use clusters::{Sorted, sort_key};
 use delta_score::{least_delta, op_order};
-use stale_model::{Cluster, History, Judgement, KeyOps, List, Memory, Verdict};
+use lbt_epochs::two_atomic;
+use stale_model::{Cluster, History, Judgement, KeyOps, List, Memory, Two, TwoPart, Verdict};
 use std::alloc::Global;
 use std::thread::Threads;
+
+// Whether a clear key with these clusters is 2-atomic.
+fn two_part(alloc: Global, key: &KeyOps, clusters: &[Cluster]) -> Result<TwoPart, Memory>
+    requires valid { IsValidKey key.now }
+    requires clear { IsClearKey (operations key.now) }
+    requires clusters { AreClusters (operations key.now) clusters.now }
+    ensures { IfOk result (IsPrintedTwo (operations key.now) clusters.now) }
+{
+    match two_atomic(alloc, clusters)? {
+        Two::Yes(writes) => Ok(TwoPart::Yes(op_order(alloc, 0, 2, key, writes.as_slice())?)),
+        Two::No(refutation) => Ok(TwoPart::No(refutation)),
+    }
+}
 
 // The judgement of a clear key with these clusters.
 fn judge_clear(alloc: Global, key: &KeyOps, clusters: &[Cluster]) -> Result<Judgement, Memory>
@@ -24,10 +39,12 @@ fn judge_clear(alloc: Global, key: &KeyOps, clusters: &[Cluster]) -> Result<Judg
 {
     let least = least_delta(alloc, clusters)?;
     let order = op_order(alloc, least.delta, 1, key, least.order.as_slice())?;
+    let two = two_part(alloc, key, clusters)?;
     Ok(Judgement {
         delta: least.delta,
         order,
         four: least.refuter,
+        two,
     })
 }
 
@@ -49,8 +66,9 @@ fn verdict_of(alloc: Global, key: &KeyOps) -> Result<Verdict, Memory>
 }
 
 /// The verdict of a valid key: the fault and the record that are named, or how stale its reads got
-/// (Golab, Li and Shah 2011, decided by the zones of Gibbons and Korach 1997). What it says is true of
-/// all orders of all operations of the key. The error says that memory ran out.
+/// (Golab, Li and Shah 2011, decided by the zones of Gibbons and Korach 1997) and whether it is 2-atomic
+/// (after Golab, Hurwitz and Li 2013). What it says is true of all orders of all operations of the key.
+/// The error says that memory ran out.
 pub fn judge_key(alloc: Global, key: &KeyOps) -> Result<Verdict, Memory>
     requires { IsValidKey key.now }
     ensures verdict { IfOk result (IsVerdict (operations key.now)) }

@@ -18,4 +18,4 @@ pub returns : goal.returns
 returns c =
     let least = c.in_ok-least.least in
     let order = rw c.as_slice.ensures at c.in_ok-order.ensures.in_order in
-    judged (operations c.args.key.now) c.args.clusters.now c.requires.clusters c.requires.clear least c.in_ok-order.order c.in_ok-least.ensures order
+    judged (operations c.args.key.now) c.args.clusters.now c.requires.clusters c.requires.clear least c.in_ok-order.order c.in_ok-two.two c.in_ok-least.ensures order c.in_ok-two.ensures

@@ -1,0 +1,64 @@
+-- What is said of 2-atomicity is true.
+use Rattle.std.proofs.Common.{◌≡◌, ℕ, List, sym, ◌∙◌, arith}
+use Rattle.std.proofs.lemmas.List.Sorted.{IsPermutation-refl}
+use Rattle.stale_model.specs.declared.Op.{Op}
+use Rattle.stale_model.specs.declared.Cluster.{Cluster}
+use Rattle.stale_model.specs.declared.KeyOps.{KeyOps}
+use Rattle.stale_model.specs.declared.TwoPart.{TwoPart}
+use Rattle.stale_model.specs.declared.TwoPart.TheVariants.{Yes, No}
+use Rattle.stale_model.specs.Operations.{operations, IsValidKey}
+use Rattle.stale_model.specs.Faults.{IsClearKey}
+use Rattle.stale_model.specs.Clusters.{AreClusters, writes_of}
+use Rattle.stale_model.specs.Orders.{ListsEachOnce}
+use Rattle.stale_model.specs.Printed.{IsPrintedTwo}
+use Rattle.stale_model.specs.Verdicts.{TwoHolds}
+use Rattle.model_laws.proofs.Named.{matched_keys_name_their_writes}
+use Rattle.model_laws.proofs.Refuted.{refutations_exclude_orders}
+use Rattle.model_laws.proofs.ClustersOne.{cluster_writes_differ}
+use Rattle.model_laws.proofs.Places.{contains_at}
+use Rattle.model_laws.proofs.Sorted.{one_by_number}
+use Rattle.delta_score.specs.WriteLists.{write_records}
+use Rattle.delta_score.proofs.ListedWrites.{clusters_list_writes}
+use Rattle.delta_score.proofs.ListingOrders.{listings_are_orders}
+use Rattle.lbt_epochs.specs.TwoLaws.{AreListed}
+use Rattle.lbt_epochs.proofs.ListedEpochs.{listings_are_answered}
+use Rattle.lbt_epochs.proofs.RefutedAnswers.{refutations_are_answered}
+use Rattle.lbt_epochs.proofs.RefutedClusters.{cluster_at_write, member_of_write}
+use Rattle.lbt_epochs.proofs.ListedParts.{write_there}
+
+pub two_holds : (key : KeyOps) (clusters : List Cluster) (two : TwoPart) → IsValidKey key → IsClearKey (operations key) → AreClusters (operations key) clusters
+    → IsPrintedTwo (operations key) clusters two → TwoHolds (operations key) two
+two_holds key clusters (Yes order) valid clear are printed =
+    let ops = operations key in
+    let listed = listings_are_answered 0 clusters printed.writes (cluster_writes_differ ops clusters are) printed.answer in
+    listings_are_orders key 0 clusters listed.listing order valid clear are listed.is (rw listed.writes_are printed.operation_order)
+two_holds key clusters (No refutation) valid clear are printed =
+    let ops = operations key in
+    let names = matched_keys_name_their_writes key valid clear.matched in
+    let holds = refutations_are_answered ops 0 clusters refutation names are printed in
+    (refutations_exclude_orders ops 0 0 refutation names holds (omega arith), holds)
+
+-- a listing of the clusters lists each write once
+pub listing_lists_writes : (ops : List Op) (clusters listing : List Cluster) → AreClusters ops clusters → ListsEachOnce clusters listing
+    → ListsEachOnce (write_records ops) (writes_of listing)
+listing_lists_writes ops clusters listing are each =
+    let writes = clusters_list_writes ops clusters clusters are (IsPermutation-refl clusters) in
+    let differ = cluster_writes_differ ops clusters are in
+    record {
+      known = λ x there.
+          let (c, in_listing, same) = member_of_write listing x there in
+          writes.known x (rw same at (write_there clusters c (each.known c in_listing)));
+      whole = λ x there.
+          let (c, in_clusters, same) = member_of_write clusters x (writes.whole x there) in
+          rw same at (write_there listing c (each.whole c in_clusters));
+      once = λ i j x at_i at_j.
+          let (c, stands_i, same) = cluster_at_write listing i x at_i in
+          let (e, stands_j, other) = cluster_at_write listing j x at_j in
+          let one : c ≡ e = one_by_number (λ (y : Cluster). y.write) clusters c e differ (each.known c (contains_at listing i c stands_i)) (each.known e (contains_at listing j e stands_j)) (same ∙ sym other) in
+          each.once i j c stands_i (rw one stands_j);
+    }
+
+-- what is answered for the clusters lists each write once
+pub answer_lists_writes : (ops : List Op) (clusters : List Cluster) (writes : List ℕ) → AreClusters ops clusters → AreListed 0 clusters writes
+    → ListsEachOnce (write_records ops) writes
+answer_lists_writes ops clusters writes are listed = rw listed.writes_are at (listing_lists_writes ops clusters listed.listing are listed.is.each_once)
