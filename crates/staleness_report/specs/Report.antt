@@ -6,6 +6,8 @@ use Rattle.stale_model.specs.declared.Op.{Op}
 use Rattle.stale_model.specs.declared.Four.{Four}
 use Rattle.stale_model.specs.declared.KeyOps.{KeyOps}
 use Rattle.stale_model.specs.declared.History.{History}
+use Rattle.stale_model.specs.declared.TwoPart.{TwoPart}
+use Rattle.stale_model.specs.declared.TwoPart.TheVariants.{Yes, No}
 use Rattle.stale_model.specs.declared.Verdict.{Verdict}
 use Rattle.stale_model.specs.declared.Verdict.TheVariants.{Duplicate, Unmatched, Infinite, Judged}
 use Rattle.stale_model.specs.Operations.{operations, is_write}
@@ -28,12 +30,17 @@ abbrev pub pair_text : List Op → Option Four → List ℕ
 pair_text ops None = []
 pair_text ops (Some four) = codes " pair " ++ decimal (cluster_of_record ops four.p) ++ codes " " ++ decimal (cluster_of_record ops four.q)
 
+-- whether a key is 2-atomic
+abbrev pub two_text : TwoPart → List ℕ
+two_text (Yes order) = codes " two yes"
+two_text (No refutation) = codes " two no"
+
 -- the end of a key's line
 abbrev pub verdict_text : List Op → Verdict → List ℕ
 verdict_text ops (Duplicate rec) = codes "duplicate " ++ decimal rec
 verdict_text ops (Unmatched rec) = codes "unmatched " ++ decimal rec
-verdict_text ops (Infinite rec) = codes "infinite " ++ decimal rec
-verdict_text ops (Judged judgement) = codes "delta " ++ decimal judgement.delta ++ pair_text ops judgement.four
+verdict_text ops (Infinite rec) = codes "infinite " ++ decimal rec ++ codes " two no"
+verdict_text ops (Judged judgement) = codes "delta " ++ decimal judgement.delta ++ pair_text ops judgement.four ++ two_text judgement.two
 
 -- a key's line: its name, the number of its operations without the initial write, and its verdict
 abbrev pub key_line : KeyOps → Verdict → List ℕ
@@ -65,6 +72,16 @@ abbrev pub is_atomic : Verdict → Bool
 is_atomic (Judged judgement) = judgement.delta == 0
 is_atomic _ = false
 
+-- whether it is by an order
+abbrev pub is_yes : TwoPart → Bool
+is_yes (Yes order) = true
+is_yes (No refutation) = false
+
+-- whether a key is 2-atomic: judged with an order
+abbrev pub is_two_atomic : Verdict → Bool
+is_two_atomic (Judged judgement) = is_yes judgement.two
+is_two_atomic _ = false
+
 -- the delta of a verdict, and the greatest of the others
 abbrev pub worse : Verdict → Option ℕ → Option ℕ
 worse (Judged judgement) None = Some judgement.delta
@@ -94,9 +111,12 @@ faults_text verdicts =
     ++ codes " unmatched " ++ decimal (count_by is_unmatched verdicts)
     ++ codes " infinite " ++ decimal (count_by is_infinite verdicts)
 
--- how many keys are atomic, and the worst delta
+-- how many keys are atomic and 2-atomic, and the worst delta
 abbrev pub deltas_text : List Verdict → List ℕ
-deltas_text verdicts = codes " atomic " ++ decimal (count_by is_atomic verdicts) ++ codes " worst " ++ delta_text (worst_delta verdicts)
+deltas_text verdicts =
+    codes " atomic " ++ decimal (count_by is_atomic verdicts)
+    ++ codes " two " ++ decimal (count_by is_two_atomic verdicts)
+    ++ codes " worst " ++ delta_text (worst_delta verdicts)
 
 -- the last line
 abbrev pub total_line : History → List Verdict → List ℕ

@@ -6,9 +6,9 @@ ghost use Rattle.std.specs.Fmt.{decimal};
 ghost use Rattle.std.specs.String.{string_bytes};
 ghost use Rattle.stale_model.specs.Operations.{IsValidHistory, initial_write};
 ghost use Rattle.staleness_report.specs.Escaped.{hex_digit, escaped_byte, escaped};
-ghost use Rattle.staleness_report.specs.Report.{is_duplicate, is_unmatched, is_infinite, is_atomic, worse, worst_delta, value_of_record, write_of_value, cluster_of_record, pair_text, verdict_text, key_line, key_lines, sizes_text, faults_text, deltas_text, total_line, report_text};
+ghost use Rattle.staleness_report.specs.Report.{is_duplicate, is_unmatched, is_infinite, is_atomic, is_two_atomic, worse, worst_delta, value_of_record, write_of_value, cluster_of_record, pair_text, two_text, verdict_text, key_line, key_lines, sizes_text, faults_text, deltas_text, total_line, report_text};
 
-use stale_model::{Bytes, Four, History, Judgement, KeyOps, Kind, Memory, Op, Verdict};
+use stale_model::{Bytes, Four, History, Judgement, KeyOps, Kind, Memory, Op, TwoPart, Verdict};
 use std::alloc::{AllocError, Global};
 
 // The hexadecimal digit of a number, in lower case.
@@ -125,6 +125,16 @@ fn push_pair(text: &mut String, ops: &[Op], four: &Option<Four>) -> Result<(), A
     push_count(text, " ", u64::from(cluster_of_record(ops, four.q)))
 }
 
+// Whether a key is 2-atomic.
+fn two_text(two: &TwoPart) -> &'static str
+    ensures { result.now ≡ two_text two.now }
+{
+    match two {
+        TwoPart::Yes(_) => " two yes",
+        TwoPart::No(_) => " two no",
+    }
+}
+
 // What is said of a judged key.
 fn judgement_text(alloc: Global, ops: &[Op], judgement: &Judgement) -> Result<String, AllocError>
     ensures { IfOk result (λ text. string_bytes text ≡ verdict_text (initial_write ∷ ops.now) (Verdict.Judged judgement.now)) }
@@ -132,6 +142,7 @@ fn judgement_text(alloc: Global, ops: &[Op], judgement: &Judgement) -> Result<St
     let mut text = String::new(alloc);
     push_count(&mut text, "delta ", judgement.delta)?;
     push_pair(&mut text, ops, &judgement.four)?;
+    text.push_str(two_text(&judgement.two))?;
     Ok(text)
 }
 
@@ -142,7 +153,7 @@ fn verdict_text(alloc: Global, ops: &[Op], verdict: &Verdict) -> Result<String, 
     match verdict {
         Verdict::Duplicate { rec } => format!(in alloc; "duplicate {rec}"),
         Verdict::Unmatched { rec } => format!(in alloc; "unmatched {rec}"),
-        Verdict::Infinite { rec } => format!(in alloc; "infinite {rec}"),
+        Verdict::Infinite { rec } => format!(in alloc; "infinite {rec} two no"),
         Verdict::Judged(judgement) => judgement_text(alloc, ops, judgement),
     }
 }
@@ -207,6 +218,12 @@ fn is_atomic(verdict: &Verdict) -> bool
     matches!(verdict, Verdict::Judged(judgement) if judgement.delta == 0)
 }
 
+fn is_two_atomic(verdict: &Verdict) -> bool
+    ensures { result ≡ is_two_atomic verdict.now }
+{
+    matches!(verdict, Verdict::Judged(judgement) if matches!(judgement.two, TwoPart::Yes(_)))
+}
+
 // How many verdicts are of each kind of fault.
 fn duplicate_count(verdicts: &[Verdict]) -> u64
     ensures { result ≡ count_by is_duplicate verdicts.now }
@@ -239,6 +256,15 @@ fn atomic_count(verdicts: &[Verdict]) -> u64
     ensures { result ≡ count_by is_atomic verdicts.now }
 {
     verdicts.iter().filter(|verdict| is_atomic(verdict)).count() as u64
+}
+
+fn two_atomic_count(verdicts: &[Verdict]) -> u64
+    ensures { result ≡ count_by is_two_atomic verdicts.now }
+{
+    verdicts
+        .iter()
+        .filter(|verdict| is_two_atomic(verdict))
+        .count() as u64
 }
 
 // The greater of a verdict's delta, where it has one, and of the worst so far.
@@ -285,12 +311,13 @@ fn faults_text(alloc: Global, verdicts: &[Verdict]) -> Result<String, AllocError
     Ok(text)
 }
 
-// How many keys are atomic, and the worst delta.
+// How many keys are atomic and 2-atomic, and the worst delta.
 fn deltas_text(alloc: Global, verdicts: &[Verdict]) -> Result<String, AllocError>
     ensures { IfOk result (λ text. string_bytes text ≡ deltas_text verdicts.now) }
 {
     let mut text = String::new(alloc);
     push_count(&mut text, " atomic ", atomic_count(verdicts))?;
+    push_count(&mut text, " two ", two_atomic_count(verdicts))?;
     match worst_delta(verdicts) {
         Some(delta) => push_count(&mut text, " worst ", delta)?,
         None => text.push_str(" worst none")?,
@@ -323,7 +350,7 @@ fn report_text(alloc: Global, history: &History, verdicts: &[Verdict]) -> Result
 
 /// The report on a history: for each key, in the order of the keys, a line `key NAME operations N ..`
 /// with its verdict, and a last line of totals. `verdicts` has one verdict for each key. A pair is named by
-/// the write records of its two clusters.
+/// the write records of its two clusters, and `two` says whether the key is 2-atomic.
 pub fn report(alloc: Global, history: &History, verdicts: &[Verdict]) -> Result<Bytes, Memory>
     requires valid { IsValidHistory history.now }
     requires as_many { length verdicts.now ≡ length history.now.keys }

@@ -1,11 +1,28 @@
-//! The order and the pair of each judged key.
+//! The orders, the pair and the refutation of each judged key.
 
 use audit_workers::judge_key;
 use history_csv::read_history;
-use stale_model::{Four, Verdict};
+use stale_model::{End, Four, Try, TwoPart, Verdict};
 use std::alloc::AllocError;
 use std::process::Abort;
 use std::test::Fail;
+
+// One cluster tried as the last one: the writes of its chain, and the end.
+#[derive(Clone, Copy)]
+struct Tried<'a> {
+    chain: &'a [u32],
+    end: End,
+}
+
+// What is said of 2-atomicity: the records of an order, or the writes that are stuck and what was tried of each.
+#[derive(Clone, Copy)]
+enum TwoRow<'a> {
+    Yes(&'a [u32]),
+    No {
+        stuck: &'a [u32],
+        tries: &'a [Tried<'a>],
+    },
+}
 
 // A history of one key, and the judgement of it.
 #[derive(Clone, Copy)]
@@ -15,6 +32,23 @@ struct Judged<'a> {
     delta: u64,
     order: &'a [u32],
     four: Option<Four>,
+    two: TwoRow<'a>,
+}
+
+fn is_tried(tries: &[Try], rows: &[Tried]) -> bool {
+    tries.len() == rows.len()
+        && tries.iter().zip(rows).all(|(tried, row)| tried.chain.as_slice() == row.chain
+            && tried.end == row.end)
+}
+
+fn is_two(two: &TwoPart, row: &TwoRow) -> bool {
+    match (two, row) {
+        (TwoPart::Yes(order), TwoRow::Yes(records)) => order.as_slice() == *records,
+        (TwoPart::No(refutation), TwoRow::No { stuck, tries }) => {
+            refutation.stuck.as_slice() == *stuck && is_tried(refutation.tries.as_slice(), tries)
+        }
+        _ => false,
+    }
 }
 
 fn judge_row<R: Abort + AllocGlobal>(rt: &R, row: &Judged) -> Result<(), AllocError> {
@@ -34,11 +68,12 @@ fn judge_row<R: Abort + AllocGlobal>(rt: &R, row: &Judged) -> Result<(), AllocEr
     assert!(rt; delta == row.delta, "{shows}: delta {delta}");
     assert!(rt; judgement.order.as_slice() == row.order, "{shows}: order");
     assert!(rt; judgement.four == row.four, "{shows}: pair");
+    assert!(rt; is_two(&judgement.two, &row.two), "{shows}: two");
     Ok(())
 }
 
 #[test]
-fn judgements_have_their_order_and_pair(rt: HostRuntime) -> Result<(), Fail> {
+fn judgements_have_their_orders_pair_and_refutation(rt: HostRuntime) -> Result<(), Fail> {
     let rows = [
         Judged {
             shows: "a write and a read of it",
@@ -46,6 +81,7 @@ fn judgements_have_their_order_and_pair(rt: HostRuntime) -> Result<(), Fail> {
             delta: 0,
             order: &[0, 1, 2],
             four: None,
+            two: TwoRow::Yes(&[0, 1, 2]),
         },
         Judged {
             shows: "a read three ticks stale",
@@ -58,6 +94,7 @@ fn judgements_have_their_order_and_pair(rt: HostRuntime) -> Result<(), Fail> {
                 q2: 2,
                 p2: 3,
             }),
+            two: TwoRow::Yes(&[0, 1, 2, 3]),
         },
         Judged {
             shows: "three writes and a read of the first",
@@ -70,6 +107,27 @@ fn judgements_have_their_order_and_pair(rt: HostRuntime) -> Result<(), Fail> {
                 q2: 2,
                 p2: 4,
             }),
+            two: TwoRow::No {
+                stuck: &[3, 2, 1, 0],
+                tries: &[
+                    Tried {
+                        chain: &[3, 1],
+                        end: End::Hard { p: 1, u: 2 },
+                    },
+                    Tried {
+                        chain: &[2],
+                        end: End::Hard { p: 2, u: 3 },
+                    },
+                    Tried {
+                        chain: &[1],
+                        end: End::Hard { p: 1, u: 3 },
+                    },
+                    Tried {
+                        chain: &[0],
+                        end: End::Hard { p: 0, u: 3 },
+                    },
+                ],
+            },
         },
         Judged {
             shows: "equal ticks are concurrent",
@@ -77,6 +135,7 @@ fn judgements_have_their_order_and_pair(rt: HostRuntime) -> Result<(), Fail> {
             delta: 0,
             order: &[0, 2, 1, 3],
             four: None,
+            two: TwoRow::Yes(&[0, 1, 3, 2]),
         },
         Judged {
             shows: "a backward zone before a forward one that begins with it",
@@ -84,6 +143,7 @@ fn judgements_have_their_order_and_pair(rt: HostRuntime) -> Result<(), Fail> {
             delta: 0,
             order: &[0, 2, 1, 3],
             four: None,
+            two: TwoRow::Yes(&[0, 2, 1, 3]),
         },
         Judged {
             shows: "a backward zone inside a forward one",
@@ -96,6 +156,7 @@ fn judgements_have_their_order_and_pair(rt: HostRuntime) -> Result<(), Fail> {
                 q2: 4,
                 p2: 5,
             }),
+            two: TwoRow::Yes(&[0, 1, 3, 2, 4, 5]),
         },
         Judged {
             shows: "a read of the initial value",
@@ -108,6 +169,7 @@ fn judgements_have_their_order_and_pair(rt: HostRuntime) -> Result<(), Fail> {
                 q2: 2,
                 p2: 3,
             }),
+            two: TwoRow::Yes(&[0, 1, 2, 3]),
         },
         Judged {
             shows: "an open write, and a skipped read",
@@ -115,6 +177,7 @@ fn judgements_have_their_order_and_pair(rt: HostRuntime) -> Result<(), Fail> {
             delta: 0,
             order: &[0, 2, 1, 3],
             four: None,
+            two: TwoRow::Yes(&[0, 2, 1, 3]),
         },
         Judged {
             shows: "three concurrent writes and two stale reads",
@@ -127,6 +190,7 @@ fn judgements_have_their_order_and_pair(rt: HostRuntime) -> Result<(), Fail> {
                 q2: 2,
                 p2: 5,
             }),
+            two: TwoRow::Yes(&[0, 3, 1, 2, 4, 5]),
         },
         Judged {
             shows: "the same with a later third write",
@@ -139,6 +203,27 @@ fn judgements_have_their_order_and_pair(rt: HostRuntime) -> Result<(), Fail> {
                 q2: 2,
                 p2: 5,
             }),
+            two: TwoRow::No {
+                stuck: &[3, 2, 1, 0],
+                tries: &[
+                    Tried {
+                        chain: &[3],
+                        end: End::Soft { p: 3, q: 5, q2: 4 },
+                    },
+                    Tried {
+                        chain: &[2],
+                        end: End::Hard { p: 2, u: 3 },
+                    },
+                    Tried {
+                        chain: &[1],
+                        end: End::Hard { p: 1, u: 3 },
+                    },
+                    Tried {
+                        chain: &[0],
+                        end: End::Hard { p: 0, u: 3 },
+                    },
+                ],
+            },
         },
         Judged {
             shows: "slack of a write",
@@ -146,6 +231,7 @@ fn judgements_have_their_order_and_pair(rt: HostRuntime) -> Result<(), Fail> {
             delta: 0,
             order: &[0, 2, 1, 3],
             four: None,
+            two: TwoRow::Yes(&[0, 2, 1, 3]),
         },
         Judged {
             shows: "slack of a read",
@@ -158,6 +244,7 @@ fn judgements_have_their_order_and_pair(rt: HostRuntime) -> Result<(), Fail> {
                 q2: 2,
                 p2: 3,
             }),
+            two: TwoRow::Yes(&[0, 1, 2, 3]),
         },
         Judged {
             shows: "slack of a read and of its write",
@@ -165,6 +252,7 @@ fn judgements_have_their_order_and_pair(rt: HostRuntime) -> Result<(), Fail> {
             delta: 0,
             order: &[0, 2, 1],
             four: None,
+            two: TwoRow::Yes(&[0, 2, 1]),
         },
     ];
     for row in &rows {

@@ -6,7 +6,7 @@ use std::test::Fail;
 const HISTORY: &[u8] = b"client,op,key,value,start,finish\n0,w,x,a,1,3\n1,r,x,a,4,6\n";
 
 const REPORT: &str =
-    "key x operations 2 delta 0\ntotal keys 1 operations 2 skipped 0 duplicate 0 unmatched 0 infinite 0 atomic 1 worst 0\n";
+    "key x operations 2 delta 0 two yes\ntotal keys 1 operations 2 skipped 0 duplicate 0 unmatched 0 infinite 0 atomic 1 two 1 worst 0\n";
 
 // A row with other words.
 fn with_words<'a>(shows: &'a str, words: &'a [&'a str]) -> Row<'a> {
@@ -123,7 +123,7 @@ fn a_file_above_the_limit_is_named(rt: HostRuntime) -> Result<(), Fail> {
         &Row::audit(
             "a file of the greatest length",
             &history,
-            "total keys 0 operations 0 skipped 0 duplicate 0 unmatched 0 infinite 0 atomic 0 worst none\n",
+            "total keys 0 operations 0 skipped 0 duplicate 0 unmatched 0 infinite 0 atomic 0 two 0 worst none\n",
         ),
     )?;
     Ok(())

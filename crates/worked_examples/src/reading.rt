@@ -11,82 +11,82 @@ fn histories_are_read(rt: HostRuntime) -> Result<(), Fail> {
             Row::audit(
                 "the header alone",
                 b"client,op,key,value,start,finish\n",
-                "total keys 0 operations 0 skipped 0 duplicate 0 unmatched 0 infinite 0 atomic 0 worst none\n",
+                "total keys 0 operations 0 skipped 0 duplicate 0 unmatched 0 infinite 0 atomic 0 two 0 worst none\n",
             ),
             Row::audit(
                 "a real-looking file with carriage returns, quotes and a column that is not looked at",
                 b"key,op,node,value,client,start,finish\r\n\"user,7\",write,n1,v1,0,1700000000000000000,1700000000000400000\r\n\"user,7\",write,n2,v2,1,1700000000000500000,1700000000000900000\r\n\"user,7\",read,n3,v1,2,1700000000002000000,1700000000002300000\r\n",
-                "key user,7 operations 3 delta 1100000 pair 1 2\ntotal keys 1 operations 3 skipped 0 duplicate 0 unmatched 0 infinite 0 atomic 0 worst 1100000\n",
+                "key user,7 operations 3 delta 1100000 pair 1 2 two yes\ntotal keys 1 operations 3 skipped 0 duplicate 0 unmatched 0 infinite 0 atomic 0 two 1 worst 1100000\n",
             ),
             Row::audit(
                 "the same after a byte order mark",
                 b"\xef\xbb\xbfkey,op,node,value,client,start,finish\r\n\"user,7\",write,n1,v1,0,1700000000000000000,1700000000000400000\r\n\"user,7\",write,n2,v2,1,1700000000000500000,1700000000000900000\r\n\"user,7\",read,n3,v1,2,1700000000002000000,1700000000002300000\r\n",
-                "key user,7 operations 3 delta 1100000 pair 1 2\ntotal keys 1 operations 3 skipped 0 duplicate 0 unmatched 0 infinite 0 atomic 0 worst 1100000\n",
+                "key user,7 operations 3 delta 1100000 pair 1 2 two yes\ntotal keys 1 operations 3 skipped 0 duplicate 0 unmatched 0 infinite 0 atomic 0 two 1 worst 1100000\n",
             ),
             Row::audit(
                 "columns in another order, and the long words",
                 b"op,client,finish,start,value,key\nwrite,0,3,1,a,x\nread,1,6,4,a,x\n",
-                "key x operations 2 delta 0\ntotal keys 1 operations 2 skipped 0 duplicate 0 unmatched 0 infinite 0 atomic 1 worst 0\n",
+                "key x operations 2 delta 0 two yes\ntotal keys 1 operations 2 skipped 0 duplicate 0 unmatched 0 infinite 0 atomic 1 two 1 worst 0\n",
             ),
             Row::audit(
                 "an open write, and a read that never finished and is skipped",
                 b"client,op,key,value,start,finish\n0,w,x,a,1,\n1,r,x,,5,6\n2,r,x,a,7,8\n3,r,x,a,9,\n",
-                "key x operations 3 delta 0\ntotal keys 1 operations 3 skipped 1 duplicate 0 unmatched 0 infinite 0 atomic 1 worst 0\n",
+                "key x operations 3 delta 0 two yes\ntotal keys 1 operations 3 skipped 1 duplicate 0 unmatched 0 infinite 0 atomic 1 two 1 worst 0\n",
             ),
             Row::audit(
                 "a skipped read alone names no key",
                 b"client,op,key,value,start,finish\n3,r,y,b,9,\n",
-                "total keys 0 operations 0 skipped 1 duplicate 0 unmatched 0 infinite 0 atomic 0 worst none\n",
+                "total keys 0 operations 0 skipped 1 duplicate 0 unmatched 0 infinite 0 atomic 0 two 0 worst none\n",
             ),
             Row::audit(
                 "the largest tick",
                 b"client,op,key,value,start,finish\n0,w,x,a,1,4611686018427387903\n",
-                "key x operations 1 delta 0\ntotal keys 1 operations 1 skipped 0 duplicate 0 unmatched 0 infinite 0 atomic 1 worst 0\n",
+                "key x operations 1 delta 0 two yes\ntotal keys 1 operations 1 skipped 0 duplicate 0 unmatched 0 infinite 0 atomic 1 two 1 worst 0\n",
             ),
             Row::audit(
                 "a finish equal to its start, and leading zeros",
                 b"client,op,key,value,start,finish\n007,w,x,a,03,0003\n",
-                "key x operations 1 delta 0\ntotal keys 1 operations 1 skipped 0 duplicate 0 unmatched 0 infinite 0 atomic 1 worst 0\n",
+                "key x operations 1 delta 0 two yes\ntotal keys 1 operations 1 skipped 0 duplicate 0 unmatched 0 infinite 0 atomic 1 two 1 worst 0\n",
             ),
             Row::audit(
                 "a key with a blank",
                 b"client,op,key,value,start,finish\n0,w,a b,a,1,2\n",
-                "key a\\x20b operations 1 delta 0\ntotal keys 1 operations 1 skipped 0 duplicate 0 unmatched 0 infinite 0 atomic 1 worst 0\n",
+                "key a\\x20b operations 1 delta 0 two yes\ntotal keys 1 operations 1 skipped 0 duplicate 0 unmatched 0 infinite 0 atomic 1 two 1 worst 0\n",
             ),
             Row::audit(
                 "the same key in quotes",
                 b"client,op,key,value,start,finish\n0,w,\"a b\",a,1,2\n",
-                "key a\\x20b operations 1 delta 0\ntotal keys 1 operations 1 skipped 0 duplicate 0 unmatched 0 infinite 0 atomic 1 worst 0\n",
+                "key a\\x20b operations 1 delta 0 two yes\ntotal keys 1 operations 1 skipped 0 duplicate 0 unmatched 0 infinite 0 atomic 1 two 1 worst 0\n",
             ),
             Row::audit(
                 "a line break and a doubled quote in a field",
                 b"client,op,key,value,start,finish\n0,w,\"a\n\"\"b\",a,1,2\n",
-                "key a\\x0a\"b operations 1 delta 0\ntotal keys 1 operations 1 skipped 0 duplicate 0 unmatched 0 infinite 0 atomic 1 worst 0\n",
+                "key a\\x0a\"b operations 1 delta 0 two yes\ntotal keys 1 operations 1 skipped 0 duplicate 0 unmatched 0 infinite 0 atomic 1 two 1 worst 0\n",
             ),
             Row::audit(
                 "a last line with no end",
                 b"client,op,key,value,start,finish\n0,w,x,a,1,2",
-                "key x operations 1 delta 0\ntotal keys 1 operations 1 skipped 0 duplicate 0 unmatched 0 infinite 0 atomic 1 worst 0\n",
+                "key x operations 1 delta 0 two yes\ntotal keys 1 operations 1 skipped 0 duplicate 0 unmatched 0 infinite 0 atomic 1 two 1 worst 0\n",
             ),
             Row::audit(
                 "a column that stands twice and is not looked at",
                 b"client,op,key,value,start,finish,note,note\n0,w,x,a,1,2,p,q\n",
-                "key x operations 1 delta 0\ntotal keys 1 operations 1 skipped 0 duplicate 0 unmatched 0 infinite 0 atomic 1 worst 0\n",
+                "key x operations 1 delta 0 two yes\ntotal keys 1 operations 1 skipped 0 duplicate 0 unmatched 0 infinite 0 atomic 1 two 1 worst 0\n",
             ),
             Row::audit(
                 "a key that is no text",
                 b"client,op,key,value,start,finish\n0,w,\xff\xfe,a,1,2\n",
-                "key \\xff\\xfe operations 1 delta 0\ntotal keys 1 operations 1 skipped 0 duplicate 0 unmatched 0 infinite 0 atomic 1 worst 0\n",
+                "key \\xff\\xfe operations 1 delta 0 two yes\ntotal keys 1 operations 1 skipped 0 duplicate 0 unmatched 0 infinite 0 atomic 1 two 1 worst 0\n",
             ),
             Row::audit(
                 "a slack of 0 in each record",
                 b"client,op,key,value,start,finish,slack\n0,w,x,a,1,2,0\n0,w,x,b,3,4,0\n1,r,x,a,7,9,0\n",
-                "key x operations 3 delta 3 pair 1 2\ntotal keys 1 operations 3 skipped 0 duplicate 0 unmatched 0 infinite 0 atomic 0 worst 3\n",
+                "key x operations 3 delta 3 pair 1 2 two yes\ntotal keys 1 operations 3 skipped 0 duplicate 0 unmatched 0 infinite 0 atomic 0 two 1 worst 3\n",
             ),
             Row::audit(
                 "the largest slack, and an empty one",
                 b"client,op,key,value,start,finish,slack\n0,w,x,a,1,2,4611686018427387903\n0,w,x,b,3,4,\n",
-                "key x operations 2 delta 0\ntotal keys 1 operations 2 skipped 0 duplicate 0 unmatched 0 infinite 0 atomic 1 worst 0\n",
+                "key x operations 2 delta 0 two yes\ntotal keys 1 operations 2 skipped 0 duplicate 0 unmatched 0 infinite 0 atomic 1 two 1 worst 0\n",
             ),
         ],
     )?;
@@ -266,7 +266,7 @@ fn cut_files_are_read_as_they_stand(rt: HostRuntime) -> Result<(), Fail> {
             Row::audit(
                 "cut after the header",
                 b"client,op,key,value,start,finish",
-                "total keys 0 operations 0 skipped 0 duplicate 0 unmatched 0 infinite 0 atomic 0 worst none\n",
+                "total keys 0 operations 0 skipped 0 duplicate 0 unmatched 0 infinite 0 atomic 0 two 0 worst none\n",
             ),
             Row::refused(
                 "cut before a finish",
@@ -277,12 +277,12 @@ fn cut_files_are_read_as_they_stand(rt: HostRuntime) -> Result<(), Fail> {
             Row::audit(
                 "cut in a finish, which makes an open write",
                 b"client,op,key,value,start,finish\n0,w,x,a,1,",
-                "key x operations 1 delta 0\ntotal keys 1 operations 1 skipped 0 duplicate 0 unmatched 0 infinite 0 atomic 1 worst 0\n",
+                "key x operations 1 delta 0 two yes\ntotal keys 1 operations 1 skipped 0 duplicate 0 unmatched 0 infinite 0 atomic 1 two 1 worst 0\n",
             ),
             Row::audit(
                 "cut in the finish of a read, which is skipped",
                 b"client,op,key,value,start,finish\n0,w,x,a,1,3\n1,r,x,a,4,",
-                "key x operations 1 delta 0\ntotal keys 1 operations 1 skipped 1 duplicate 0 unmatched 0 infinite 0 atomic 1 worst 0\n",
+                "key x operations 1 delta 0 two yes\ntotal keys 1 operations 1 skipped 1 duplicate 0 unmatched 0 infinite 0 atomic 1 two 1 worst 0\n",
             ),
         ],
     )?;
@@ -300,7 +300,7 @@ fn a_million_records_are_the_most(rt: HostRuntime) -> Result<(), Fail> {
         &Row::audit(
             "a million records",
             &history,
-            "key x operations 1000000 delta 0\ntotal keys 1 operations 1000000 skipped 0 duplicate 0 unmatched 0 infinite 0 atomic 1 worst 0\n",
+            "key x operations 1000000 delta 0 two yes\ntotal keys 1 operations 1000000 skipped 0 duplicate 0 unmatched 0 infinite 0 atomic 1 two 1 worst 0\n",
         ),
     )?;
     history.extend_from_slice(b"0,zap,x,,1,1\n")?;
