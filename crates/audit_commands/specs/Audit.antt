@@ -2,7 +2,8 @@
 use Rattle.std.specs.Prelude.{◌≡◌, ◌⊎◌, ℕ, ◌≤◌, List, Ok, Result, OnOk, OnErr}
 use Rattle.stale_model.specs.declared.History.{History}
 use Rattle.stale_model.specs.declared.Verdict.{Verdict}
-use Rattle.stale_model.specs.Verdicts.{AreVerdicts, EachKeyHas, IsTrueOf}
+use Rattle.stale_model.specs.PrintedVerdicts.{ArePrintedVerdicts}
+use Rattle.stale_model.specs.Truth.{EachKeyHas, IsTrueOf}
 use Rattle.audit_ports.specs.Shelf.{Shown, Rose}
 use Rattle.audit_ports.specs.Sink.{SinkShown, GainsPrefix, appended}
 use Rattle.history_csv.specs.Reading.{read_of}
@@ -16,7 +17,7 @@ history_limit = 67108864
 -- this is the report on a history, by the verdicts of its keys, which are true
 pub record Reports (history : History) (text : List ℕ) : Type 0 where
   pub verdicts : List Verdict
-  pub judged : AreVerdicts history.keys verdicts
+  pub judged : ArePrintedVerdicts history.keys verdicts
   pub truth : EachKeyHas IsTrueOf history.keys verdicts
   pub text_is : text ≡ report_text history verdicts
 

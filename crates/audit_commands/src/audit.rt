@@ -1,8 +1,8 @@
 //! The audit of a history file.
 
 ghost use Rattle.std.specs.Prelude.{◌≡◌, ◌⊎◌, ℕ, Ok, Err, IfOk, IfErr, OnErr, List};
-ghost use Rattle.stale_model.specs.Operations.{IsValidHistory};
-ghost use Rattle.stale_model.specs.Verdicts.{AreVerdicts};
+ghost use Rattle.stale_model.specs.Valid.{IsValidHistory};
+ghost use Rattle.stale_model.specs.PrintedVerdicts.{ArePrintedVerdicts};
 ghost use Rattle.stale_model.specs.declared.Verdict.{Verdict};
 ghost use Rattle.audit_ports.specs.Shelf.{KeepsFiles};
 ghost use Rattle.audit_ports.specs.Sink.{SinkShown};

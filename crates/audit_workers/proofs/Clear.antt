@@ -7,19 +7,19 @@ use Rattle.stale_model.specs.declared.Op.{Op}
 use Rattle.stale_model.specs.declared.Cluster.{Cluster}
 use Rattle.stale_model.specs.declared.Four.{Four}
 use Rattle.stale_model.specs.declared.KeyOps.{KeyOps}
-use Rattle.stale_model.specs.Operations.{operations, IsValidKey, IsWrite, earliest_start, latest_finish}
+use Rattle.stale_model.specs.Operations.{operations, IsWrite, earliest_start, latest_finish}
+use Rattle.stale_model.specs.Valid.{IsValidKey}
 use Rattle.stale_model.specs.Faults.{IsWriteOf, IsClearKey}
 use Rattle.stale_model.specs.Clusters.{AreClusters}
 use Rattle.stale_model.specs.Orders.{ListsEachOnce}
 use Rattle.stale_model.specs.OperationOrders.{IsOperationOrder}
-use Rattle.stale_model.specs.Verdicts.{IsJudgement, IsFour}
-use Rattle.stale_model.specs.Printed.{IsPrintedTwo}
+use Rattle.stale_model.specs.PrintedVerdicts.{IsPrintedJudgement, IsPrintedFour, IsPrintedTwo}
 use Rattle.stale_model.specs.declared.TwoPart.{TwoPart}
 use Rattle.zones.specs.Sweeps.{IsOrderOf}
 use Rattle.model_laws.proofs.Named.{matched_keys_name_their_writes}
 use Rattle.model_laws.proofs.OrderPlaces.{reads_or_writes}
 use Rattle.delta_score.specs.declared.least.Least.{Least}
-use Rattle.delta_score.specs.Scores.{IsLeast, IsRefuter}
+use Rattle.delta_score.specs.Scores.{IsLeast}
 use Rattle.delta_score.specs.WriteLists.{write_records}
 use Rattle.delta_score.proofs.Ordered.{starts_before_finish}
 use Rattle.delta_score.proofs.ListedWrites.{clusters_list_writes}
@@ -56,13 +56,13 @@ module _ (ops : List Op) (clusters : List Cluster) (are : AreClusters ops cluste
   pub writes_listed : (d : ℕ) (order : List ℕ) → IsOrderOf d clusters order → ListsEachOnce (write_records ops) order
   writes_listed d order is = rw is.writes (clusters_list_writes ops clusters is.zones are is.zone_order.each_once)
 
-  four_printed : (delta : ℕ) (four : Option Four) → IsRefuter clusters delta four → IsFour clusters delta four
+  four_printed : (delta : ℕ) (four : Option Four) → IsPrintedFour clusters delta four → IsPrintedFour clusters delta four
   four_printed delta None none = none
   four_printed delta (Some four) (above, is) = (above, record { zones = is.pair.zones; zone_order = is.pair.zone_order; i = is.i; j = is.j; pair = is.pair.pair; four_is = is.four_is })
 
   -- the least delta, the order of operations at it and the part on 2-atomicity are the judgement
   pub judged : IsClearKey ops → (least : Least) (order : List ℕ) (two : TwoPart) → IsLeast clusters least → IsOperationOrder ops least.delta 1 least.order order
-      → IsPrintedTwo ops clusters two → IsJudgement ops (record { delta = least.delta; order = order; four = least.refuter; two = two })
+      → IsPrintedTwo ops clusters two → IsPrintedJudgement ops (record { delta = least.delta; order = order; four = least.refuter; two = two })
   judged clear least order two is in_order is_two = record {
     clear = clear;
     clusters = clusters;

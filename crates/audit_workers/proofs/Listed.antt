@@ -6,17 +6,18 @@ use Rattle.stale_model.specs.declared.Cluster.{Cluster}
 use Rattle.stale_model.specs.declared.KeyOps.{KeyOps}
 use Rattle.stale_model.specs.declared.TwoPart.{TwoPart}
 use Rattle.stale_model.specs.declared.TwoPart.TheVariants.{Yes, No}
-use Rattle.stale_model.specs.Operations.{operations, IsValidKey}
+use Rattle.stale_model.specs.Operations.{operations}
+use Rattle.stale_model.specs.Valid.{IsValidKey}
 use Rattle.stale_model.specs.Faults.{IsClearKey}
 use Rattle.stale_model.specs.Clusters.{AreClusters, writes_of}
 use Rattle.stale_model.specs.Orders.{ListsEachOnce}
-use Rattle.stale_model.specs.Printed.{IsPrintedTwo}
-use Rattle.stale_model.specs.Verdicts.{TwoHolds}
+use Rattle.stale_model.specs.PrintedVerdicts.{IsPrintedTwo}
+use Rattle.stale_model.specs.Truth.{TwoHolds}
 use Rattle.model_laws.proofs.Named.{matched_keys_name_their_writes}
 use Rattle.model_laws.proofs.Refuted.{refutations_exclude_orders}
 use Rattle.model_laws.proofs.ClustersOne.{cluster_writes_differ}
-use Rattle.model_laws.proofs.Places.{contains_at}
-use Rattle.model_laws.proofs.Sorted.{one_by_number}
+use Rattle.stale_model.proofs.Places.{contains_at}
+use Rattle.stale_model.proofs.Sorted.{one_by_number}
 use Rattle.delta_score.specs.WriteLists.{write_records}
 use Rattle.delta_score.proofs.ListedWrites.{clusters_list_writes}
 use Rattle.delta_score.proofs.ListingOrders.{listings_are_orders}

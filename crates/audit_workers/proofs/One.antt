@@ -6,10 +6,11 @@ use Rattle.stale_model.specs.declared.Judgement.{Judgement}
 use Rattle.stale_model.specs.declared.KeyOps.{KeyOps}
 use Rattle.stale_model.specs.declared.Verdict.{Verdict}
 use Rattle.stale_model.specs.declared.Verdict.TheVariants.{Duplicate, Unmatched, Infinite, Judged}
-use Rattle.stale_model.specs.Operations.{operations, IsValidKey}
+use Rattle.stale_model.specs.Operations.{operations}
+use Rattle.stale_model.specs.Valid.{IsValidKey}
 use Rattle.stale_model.specs.Faults.{IsDuplicate, IsUnmatched, IsEarly}
-use Rattle.stale_model.specs.Printed.{IsPrintedOrder, IsPrintedFour, IsPrintedTwo}
-use Rattle.stale_model.specs.Verdicts.{AreVerdicts, IsJudgement, IsFour}
+use Rattle.stale_model.specs.PrintedVerdicts.{IsPrintedOrder, IsPrintedTwo, ArePrintedVerdicts, IsPrintedJudgement, IsPrintedFour}
+use Rattle.stale_model.specs.Zones.{IsFourOfPair}
 use Rattle.model_laws.proofs.Named.{matched_keys_name_their_writes}
 use Rattle.model_laws.proofs.One.{least_deltas_are_one, printed_orders_are_one, printed_fours_are_one, printed_twos_are_one}
 use Rattle.model_laws.proofs.ClustersOne.{clusters_are_one, cluster_writes_differ, valid_records_differ}
@@ -18,7 +19,7 @@ use Rattle.audit_workers.specs.Laws.{VerdictIsOne, VerdictsAreOne}
 use Rattle.audit_workers.proofs.Truth.{judgement_is_true}
 
 -- the records that are printed for one delta are one
-four_is_one : (clusters : List Cluster) (delta : ℕ) (x y : Option Four) → ((d : ℕ) (four other : Four) → IsPrintedFour clusters d four → IsPrintedFour clusters d other → four ≡ other) → IsFour clusters delta x → IsFour clusters delta y → x ≡ y
+four_is_one : (clusters : List Cluster) (delta : ℕ) (x y : Option Four) → ((d : ℕ) (four other : Four) → IsFourOfPair clusters d four → IsFourOfPair clusters d other → four ≡ other) → IsPrintedFour clusters delta x → IsPrintedFour clusters delta y → x ≡ y
 four_is_one clusters delta None None one p q = refl
 four_is_one clusters delta None (Some y) one p (above, q) = absurd (omega arith)
 four_is_one clusters delta (Some x) None one (above, p) q = absurd (omega arith)
@@ -28,7 +29,7 @@ four_is_one clusters delta (Some x) (Some y) one (above, p) (more, q) = ap Some 
 same_judgement : (x y : Judgement) → x.delta ≡ y.delta → x.order ≡ y.order → x.four ≡ y.four → x.two ≡ y.two → x ≡ y
 same_judgement x y p q r s = λ i. record { delta = p i; order = q i; four = r i; two = s i }
 
-judgement_is_one : (key : KeyOps) (x y : Judgement) → IsValidKey key → IsJudgement (operations key) x → IsJudgement (operations key) y → x ≡ y
+judgement_is_one : (key : KeyOps) (x y : Judgement) → IsValidKey key → IsPrintedJudgement (operations key) x → IsPrintedJudgement (operations key) y → x ≡ y
 judgement_is_one key x y valid p q =
     let ops = operations key in
     let names = matched_keys_name_their_writes key valid p.clear.matched in
@@ -36,7 +37,7 @@ judgement_is_one key x y valid p q =
     let clusters = clusters_are_one ops q.clusters p.clusters names q.are p.are in
     let differ = cluster_writes_differ ops p.clusters p.are in
     let order = subst (λ (d : ℕ). IsPrintedOrder ops p.clusters d y.order) (sym delta) (subst (λ (cs : List Cluster). IsPrintedOrder ops cs y.delta y.order) clusters q.order) in
-    let four = subst (λ (d : ℕ). IsFour p.clusters d y.four) (sym delta) (subst (λ (cs : List Cluster). IsFour cs y.delta y.four) clusters q.four) in
+    let four = subst (λ (d : ℕ). IsPrintedFour p.clusters d y.four) (sym delta) (subst (λ (cs : List Cluster). IsPrintedFour cs y.delta y.four) clusters q.four) in
     let two = subst (λ (cs : List Cluster). IsPrintedTwo ops cs y.two) clusters q.two in
     same_judgement x y delta (printed_orders_are_one ops p.clusters x.delta x.order y.order (valid_records_differ key valid) differ p.order order)
     (four_is_one p.clusters x.delta x.four y.four (λ d a b. printed_fours_are_one p.clusters d a b differ) p.four four)
@@ -61,8 +62,8 @@ verdict_is_one key (Judged x) (Infinite y) valid p q = absurd (not_none (IsEarly
 verdict_is_one key (Judged x) (Judged y) valid p q = ap Judged (judgement_is_one key x y valid p q)
 
 -- the verdicts of the keys but the first
-AreVerdicts-rest : (key : KeyOps) (keys : List KeyOps) (verdict : Verdict) (verdicts : List Verdict) → AreVerdicts (key ∷ keys) (verdict ∷ verdicts) → AreVerdicts keys verdicts
-AreVerdicts-rest key keys verdict verdicts h = record { as_many = let n = h.as_many in omega arith; each = λ i k v at there. h.each (suc i) k v at there }
+ArePrintedVerdicts-rest : (key : KeyOps) (keys : List KeyOps) (verdict : Verdict) (verdicts : List Verdict) → ArePrintedVerdicts (key ∷ keys) (verdict ∷ verdicts) → ArePrintedVerdicts keys verdicts
+ArePrintedVerdicts-rest key keys verdict verdicts h = record { as_many = let n = h.as_many in omega arith; each = λ i k v at there. h.each (suc i) k v at there }
 
 pub verdicts_are_one : VerdictsAreOne
 verdicts_are_one [] [] [] valid p q = refl
@@ -72,5 +73,5 @@ verdicts_are_one (k ∷ ks) [] ys valid p q = let n = p.as_many in absurd (omega
 verdicts_are_one (k ∷ ks) (x ∷ xs) [] valid p q = let n = q.as_many in absurd (omega arith)
 verdicts_are_one (k ∷ ks) (x ∷ xs) (y ∷ ys) valid p q =
     let e = verdict_is_one k x y (valid 0 k (omega arith)) (p.each 0 k x refl refl) (q.each 0 k y refl refl) in
-    let f = verdicts_are_one ks xs ys (λ i d within. valid (suc i) d (omega arith)) (AreVerdicts-rest k ks x xs p) (AreVerdicts-rest k ks y ys q) in
+    let f = verdicts_are_one ks xs ys (λ i d within. valid (suc i) d (omega arith)) (ArePrintedVerdicts-rest k ks x xs p) (ArePrintedVerdicts-rest k ks y ys q) in
     cc

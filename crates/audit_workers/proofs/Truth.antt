@@ -8,14 +8,16 @@ use Rattle.stale_model.specs.declared.Judgement.{Judgement}
 use Rattle.stale_model.specs.declared.KeyOps.{KeyOps}
 use Rattle.stale_model.specs.declared.Verdict.{Verdict}
 use Rattle.stale_model.specs.declared.Verdict.TheVariants.{Duplicate, Unmatched, Infinite, Judged}
-use Rattle.stale_model.specs.Operations.{operations, IsValidKey}
+use Rattle.stale_model.specs.Operations.{operations}
+use Rattle.stale_model.specs.Valid.{IsValidKey}
 use Rattle.stale_model.specs.Faults.{IsDuplicate, IsUnmatched}
 use Rattle.stale_model.specs.Clusters.{AreClusters}
 use Rattle.stale_model.specs.NamedWrites.{NamesItsWrites}
 use Rattle.stale_model.specs.LeastDelta.{HasNoDelta}
-use Rattle.stale_model.specs.Judgements.{FourHold, FourShow, ShowsDelta}
-use Rattle.stale_model.specs.Printed.{IsPrintedFour}
-use Rattle.stale_model.specs.Verdicts.{IsJudgement, IsFour, IsAtomicFrom, IsTrueOf, AreVerdicts, EachKeyHas}
+use Rattle.stale_model.specs.Shown.{FourHold, FourShow, ShowsDelta}
+use Rattle.stale_model.specs.Zones.{IsFourOfPair}
+use Rattle.stale_model.specs.PrintedVerdicts.{IsPrintedJudgement, IsPrintedFour, ArePrintedVerdicts}
+use Rattle.stale_model.specs.Truth.{IsAtomicFrom, IsTrueOf, EachKeyHas}
 use Rattle.model_laws.proofs.Named.{matched_keys_name_their_writes}
 use Rattle.model_laws.proofs.Early.{early_reads_exclude_orders}
 use Rattle.model_laws.proofs.Conflicts.{shown_deltas_are_least}
@@ -27,15 +29,15 @@ use Rattle.audit_workers.proofs.Listed.{two_holds}
 
 module _ (key : KeyOps) (valid : IsValidKey key) where
   -- the records of a pair show that there is no order at d
-  four_holds : (clusters : List Cluster) (d : ℕ) (four : Four) → NamesItsWrites (operations key) → AreClusters (operations key) clusters → IsPrintedFour clusters d four → FourHold (operations key) d four
+  four_holds : (clusters : List Cluster) (d : ℕ) (four : Four) → NamesItsWrites (operations key) → AreClusters (operations key) clusters → IsFourOfPair clusters d four → FourHold (operations key) d four
   four_holds clusters d four names are printed =
       subst (FourHold (operations key) d) (sym printed.four_is) (pairs_show_four (operations key) d clusters printed.zones printed.i printed.j names are printed.zone_order printed.pair)
 
-  four_shows : (clusters : List Cluster) (delta : ℕ) (four : Option Four) → NamesItsWrites (operations key) → AreClusters (operations key) clusters → IsFour clusters delta four → FourShow (operations key) delta four
+  four_shows : (clusters : List Cluster) (delta : ℕ) (four : Option Four) → NamesItsWrites (operations key) → AreClusters (operations key) clusters → IsPrintedFour clusters delta four → FourShow (operations key) delta four
   four_shows clusters delta None names are none = none
   four_shows clusters delta (Some four) names are (above, printed) = (above, four_holds clusters (delta - 1) four names are printed)
 
-  judgement_shows : (judgement : Judgement) → IsJudgement (operations key) judgement → ShowsDelta (operations key) judgement.delta judgement.order judgement.four
+  judgement_shows : (judgement : Judgement) → IsPrintedJudgement (operations key) judgement → ShowsDelta (operations key) judgement.delta judgement.order judgement.four
   judgement_shows judgement h =
       let names = matched_keys_name_their_writes key valid h.clear.matched in
       let no_crossing = zone_orders_have_no_crossing (operations key) judgement.delta h.clusters h.order.zones h.are h.no_conflict h.order.zone_order in
@@ -44,7 +46,7 @@ module _ (key : KeyOps) (valid : IsValidKey key) where
         least = four_shows h.clusters judgement.delta judgement.four names h.are h.four;
       }
 
-pub judgement_is_true : (key : KeyOps) (judgement : Judgement) → IsValidKey key → IsJudgement (operations key) judgement → IsAtomicFrom (operations key) judgement
+pub judgement_is_true : (key : KeyOps) (judgement : Judgement) → IsValidKey key → IsPrintedJudgement (operations key) judgement → IsAtomicFrom (operations key) judgement
 judgement_is_true key judgement valid h =
     let shows = judgement_shows key valid judgement h in
     record {
@@ -72,7 +74,7 @@ verdicts_are_true key (Judged judgement) valid h =
     record { holds = holds; infinite = λ matched. (λ never. absurd never, λ none. absurd (none judgement.delta judgement.order holds.shows.atomic)) }
 
 -- the verdicts of valid keys are true
-pub truths : (keys : List KeyOps) (verdicts : List Verdict) → All IsValidKey keys → AreVerdicts keys verdicts → EachKeyHas IsTrueOf keys verdicts
+pub truths : (keys : List KeyOps) (verdicts : List Verdict) → All IsValidKey keys → ArePrintedVerdicts keys verdicts → EachKeyHas IsTrueOf keys verdicts
 truths keys verdicts valid h = record {
   as_many = h.as_many;
   each = λ i key verdict at there.

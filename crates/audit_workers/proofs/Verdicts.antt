@@ -6,8 +6,10 @@ use Rattle.std.proofs.lemmas.List.{length_push, take_more}
 use Rattle.stale_model.specs.declared.Op.{Op}
 use Rattle.stale_model.specs.declared.KeyOps.{KeyOps}
 use Rattle.stale_model.specs.declared.Verdict.{Verdict}
-use Rattle.stale_model.specs.Operations.{operations, IsValidKey}
-use Rattle.stale_model.specs.Verdicts.{IsVerdict, AreVerdicts, EachKeyHas}
+use Rattle.stale_model.specs.Operations.{operations}
+use Rattle.stale_model.specs.Valid.{IsValidKey}
+use Rattle.stale_model.specs.PrintedVerdicts.{IsPrintedVerdict, ArePrintedVerdicts}
+use Rattle.stale_model.specs.Truth.{EachKeyHas}
 
 -- what stands at a place of a list with one item more
 at_push : {X : Type 0} (xs : List X) (x : X) (i : ℕ) (y : X) → slice_get (xs ++ x ∷ []) i ≡ Some y → (slice_get xs i ≡ Some y) ⊎ ((i ≡ length xs) × (x ≡ y))
@@ -41,8 +43,8 @@ module _ (items keys : List KeyOps) (i : ℕ) (key : KeyOps) (same : items ≡ k
   key_valid valid = subst IsValidKey (sym is) (subst (λ (ks : List KeyOps). IsValidKey (get_or ks i key)) (sym same) (valid i key (let n = ap length same in omega arith)))
 
   -- the verdicts of the keys so far, and that of this one
-  pub judged_next : (verdicts more : List Verdict) (verdict : Verdict) → more ≡ verdicts ++ verdict ∷ [] → IsVerdict (operations key) verdict → AreVerdicts (take i keys) verdicts → AreVerdicts (take (i + 1) keys) more
+  pub judged_next : (verdicts more : List Verdict) (verdict : Verdict) → more ≡ verdicts ++ verdict ∷ [] → IsPrintedVerdict (operations key) verdict → ArePrintedVerdicts (take i keys) verdicts → ArePrintedVerdicts (take (i + 1) keys) more
   judged_next verdicts more verdict pushed judged h =
       let front : take (i + 1) keys ≡ take i keys ++ key ∷ [] =
       take_more keys i key (let n = ap length same in omega arith) ∙ ap (λ (k : KeyOps). take i keys ++ k ∷ []) (ap (λ (ks : List KeyOps). get_or ks i key) (sym same) ∙ sym is) in
-      rw (front, pushed) (EachKeyHas-push IsVerdict (take i keys) verdicts key verdict h judged)
+      rw (front, pushed) (EachKeyHas-push IsPrintedVerdict (take i keys) verdicts key verdict h judged)

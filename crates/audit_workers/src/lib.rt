@@ -2,11 +2,12 @@
 #![tactic(auto)]
 
 ghost use Rattle.std.specs.Prelude.{◌≤◌, IfOk};
-ghost use Rattle.stale_model.specs.Operations.{IsValidKey, IsValidHistory, operations};
+ghost use Rattle.stale_model.specs.Valid.{IsValidKey, IsValidHistory};
+ghost use Rattle.stale_model.specs.Operations.{operations};
 ghost use Rattle.stale_model.specs.Faults.{IsClearKey};
 ghost use Rattle.stale_model.specs.Clusters.{AreClusters};
-ghost use Rattle.stale_model.specs.Printed.{IsPrintedTwo};
-ghost use Rattle.stale_model.specs.Verdicts.{IsVerdict, AreVerdicts, IsJudgement, EachKeyHas, IsTrueOf};
+ghost use Rattle.stale_model.specs.PrintedVerdicts.{IsPrintedTwo, IsPrintedVerdict, ArePrintedVerdicts, IsPrintedJudgement};
+ghost use Rattle.stale_model.specs.Truth.{EachKeyHas, IsTrueOf};
 ghost use Rattle.audit_workers.specs.Laws.{VerdictsAreTrue, VerdictIsOne, VerdictsAreOne};
 
 use audit_ports::Gate;
@@ -35,7 +36,7 @@ fn judge_clear(alloc: Global, key: &KeyOps, clusters: &[Cluster]) -> Result<Judg
     requires valid { IsValidKey key.now }
     requires clear { IsClearKey (operations key.now) }
     requires clusters { AreClusters (operations key.now) clusters.now }
-    ensures { IfOk result (IsJudgement (operations key.now)) }
+    ensures { IfOk result (IsPrintedJudgement (operations key.now)) }
 {
     let least = least_delta(alloc, clusters)?;
     let order = op_order(alloc, least.delta, 1, key, least.order.as_slice())?;
@@ -51,7 +52,7 @@ fn judge_clear(alloc: Global, key: &KeyOps, clusters: &[Cluster]) -> Result<Judg
 // The verdict of a key, as it is printed.
 fn verdict_of(alloc: Global, key: &KeyOps) -> Result<Verdict, Memory>
     requires { IsValidKey key.now }
-    ensures { IfOk result (IsVerdict (operations key.now)) }
+    ensures { IfOk result (IsPrintedVerdict (operations key.now)) }
 {
     match sort_key(alloc, key)? {
         Sorted::Duplicate { rec } => Ok(Verdict::Duplicate { rec }),
@@ -71,7 +72,7 @@ fn verdict_of(alloc: Global, key: &KeyOps) -> Result<Verdict, Memory>
 /// The error says that memory ran out.
 pub fn judge_key(alloc: Global, key: &KeyOps) -> Result<Verdict, Memory>
     requires { IsValidKey key.now }
-    ensures verdict { IfOk result (IsVerdict (operations key.now)) }
+    ensures verdict { IfOk result (IsPrintedVerdict (operations key.now)) }
     ensures truth { IfOk result (IsTrueOf (operations key.now)) }
 {
     verdict_of(alloc, key)
@@ -80,7 +81,7 @@ pub fn judge_key(alloc: Global, key: &KeyOps) -> Result<Verdict, Memory>
 // The verdicts of the keys, one after the other.
 fn judge_each<G: Gate>(alloc: Global, history: &History, gate: &G) -> Result<List<Verdict>, Memory>
     requires { IsValidHistory history.now }
-    ensures { IfOk result (AreVerdicts history.now.keys) }
+    ensures { IfOk result (ArePrintedVerdicts history.now.keys) }
 {
     let mut verdicts = Vec::new(alloc);
     for (place, key) in history.keys.as_slice().iter().enumerate() {
@@ -106,7 +107,7 @@ pub fn judge_all<R: Threads + Sync, G: Gate>(
     requires valid { IsValidHistory history.now }
     requires some_worker { 1 ≤ _workers }
     requires few_workers { _workers ≤ 64 }
-    ensures verdicts { IfOk result (AreVerdicts history.now.keys) }
+    ensures verdicts { IfOk result (ArePrintedVerdicts history.now.keys) }
     ensures truth { IfOk result (EachKeyHas IsTrueOf history.now.keys) }
 {
     judge_each(alloc, history, gate)

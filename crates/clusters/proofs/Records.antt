@@ -10,7 +10,8 @@ use Rattle.std.proofs.lemmas.List.Kept.{AllPairs-from_increasing, AllPairs-cons}
 use Rattle.stale_model.specs.declared.Op.{Op}
 use Rattle.stale_model.specs.declared.KeyOps.{KeyOps}
 use Rattle.stale_model.specs.declared.Kind.TheVariants.{Read}
-use Rattle.stale_model.specs.Operations.{IsRead, initial_write, operations, records_of, IsValidOp, IsValidKey}
+use Rattle.stale_model.specs.Operations.{IsRead, initial_write, operations, records_of}
+use Rattle.stale_model.specs.Valid.{IsValidOp, IsValidKey}
 use Rattle.stale_model.specs.Faults.{IsReadIn, IsLeastRecord}
 
 -- each record is less than all later ones

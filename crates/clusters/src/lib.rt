@@ -3,7 +3,8 @@
 
 ghost use Rattle.std.specs.Prelude.{◌≡◌, ℕ, ◌+◌, ◌^◌, ◌<◌, List, [], ◌∷◌, ◌++◌, length, IfOk, MatchOption};
 ghost use Rattle.std.specs.List.{filter_map};
-ghost use Rattle.stale_model.specs.Operations.{IsValidKey, initial_write, operations, earliest_start, latest_finish};
+ghost use Rattle.stale_model.specs.Valid.{IsValidKey};
+ghost use Rattle.stale_model.specs.Operations.{initial_write, operations, earliest_start, latest_finish};
 ghost use Rattle.stale_model.specs.Faults.{IsLeastRecord, HasNone, IsUnmatched, IsEarly};
 ghost use Rattle.stale_model.specs.Clusters.{IsLeastFinish, AreReadsOf, IsClusterOf, AreClusters};
 ghost use Rattle.clusters.specs.Tables.{lone_cluster, IsTable, IsLone, AreWrites, IsWriteTable, IsClusterTable, cluster_in};

@@ -14,7 +14,7 @@ use Rattle.stale_model.specs.declared.Cluster.{Cluster}
 use Rattle.stale_model.specs.Clusters.{writes_of, AreClusters}
 use Rattle.stale_model.specs.Orders.{StandsAt}
 use Rattle.stale_model.specs.Zones.{last_start, AreInConflict, zone_start, is_forward, zone_order, IsZoneOrder, Crosses}
-use Rattle.model_laws.proofs.Places.{contains_at}
+use Rattle.stale_model.proofs.Places.{contains_at}
 use Rattle.delta_score.specs.ZoneLaws.{PairsShowFour, ZoneOrdersHaveNoCrossing}
 use Rattle.delta_score.proofs.ClusterBounds.{conflicts_show_four}
 use Rattle.delta_score.proofs.Comparisons.{nat_less, nat_same}

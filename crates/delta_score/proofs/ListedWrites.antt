@@ -11,7 +11,7 @@ use Rattle.stale_model.specs.declared.Op.{Op}
 use Rattle.stale_model.specs.declared.Cluster.{Cluster}
 use Rattle.stale_model.specs.Operations.{IsWrite, is_write, is_write_kind}
 use Rattle.stale_model.specs.Orders.{StandsAt}
-use Rattle.model_laws.proofs.Places.{contains_at, at_its_place, something_at}
+use Rattle.stale_model.proofs.Places.{contains_at, at_its_place, something_at}
 use Rattle.model_laws.proofs.Listings.{origin, origin_stands, passes_at, keeps}
 use Rattle.delta_score.specs.WriteLists.{write_records}
 use Rattle.delta_score.specs.ZoneLaws.{ClustersListWrites}

@@ -10,7 +10,8 @@ use Rattle.std.proofs.lemmas.List.Sorted.{IsPermutation-map}
 use Rattle.stale_model.specs.declared.Op.{Op}
 use Rattle.stale_model.specs.declared.KeyOps.{KeyOps}
 use Rattle.stale_model.specs.declared.Cluster.{Cluster}
-use Rattle.stale_model.specs.Operations.{IsRead, IsWrite, operations, records_of, earliest_start, latest_finish, IsValidKey}
+use Rattle.stale_model.specs.Operations.{IsRead, IsWrite, operations, records_of, earliest_start, latest_finish}
+use Rattle.stale_model.specs.Valid.{IsValidKey}
 use Rattle.stale_model.specs.Faults.{IsWriteOf, IsReadIn, IsClearKey}
 use Rattle.stale_model.specs.Clusters.{writes_of, IsClusterOf, AreClusters}
 use Rattle.stale_model.specs.Listings.{IsListing}
@@ -21,7 +22,7 @@ use Rattle.stale_model.specs.Orders.{StandsAt, ListsEachOnce, is_write_record, I
 use Rattle.stale_model.specs.OperationOrders.{write_place, segment, operation_order, IsOperationOrder}
 use Rattle.model_laws.proofs.Named.{matched_keys_name_their_writes}
 use Rattle.model_laws.proofs.OrderPlaces.{reads_or_writes}
-use Rattle.model_laws.proofs.Places.{same_at}
+use Rattle.stale_model.proofs.Places.{same_at}
 use Rattle.delta_score.specs.WriteLists.{AreUncrossedWrites, AreListedWrites}
 use Rattle.delta_score.specs.ListingLaws.{ListingsAreOrders}
 use Rattle.delta_score.proofs.ClusterBounds.{finishes_from, reads_start_by}

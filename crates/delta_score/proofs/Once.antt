@@ -11,10 +11,11 @@ use Rattle.std.proofs.lemmas.List.Sorted.{Contains-permutation, IsPermutation-re
 use Rattle.std.proofs.lemmas.Map.Keys.{IsDistinct-IsPermutation, IsDistinct-from_apart, apart_from_distinct}
 use Rattle.stale_model.specs.declared.Op.{Op}
 use Rattle.stale_model.specs.declared.KeyOps.{KeyOps}
-use Rattle.stale_model.specs.Operations.{operations, records_of, IsValidOp, IsValidKey}
+use Rattle.stale_model.specs.Operations.{operations, records_of}
+use Rattle.stale_model.specs.Valid.{IsValidOp, IsValidKey}
 use Rattle.stale_model.specs.NamedWrites.{RecordsDiffer}
 use Rattle.stale_model.specs.Orders.{StandsAt, IsWithoutRepeats, ListsEachOnce}
-use Rattle.model_laws.proofs.Places.{at_its_place, same_at}
+use Rattle.stale_model.proofs.Places.{at_its_place, same_at}
 
 flips : (x y : ℕ) → eqb x y ≡ eqb y x
 flips x y = grind (arith, eq-eqb, eqb-false)

@@ -8,9 +8,10 @@ use Rattle.std.proofs.lemmas.List.Elements.{All-contains}
 use Rattle.stale_model.specs.declared.Op.{Op}
 use Rattle.stale_model.specs.declared.KeyOps.{KeyOps}
 use Rattle.stale_model.specs.declared.Cluster.{Cluster}
-use Rattle.stale_model.specs.Operations.{initial_write, operations, records_of, earliest_start, latest_finish, IsValidOp, IsValidKey}
+use Rattle.stale_model.specs.Operations.{initial_write, operations, records_of, earliest_start, latest_finish}
+use Rattle.stale_model.specs.Valid.{IsValidOp, IsValidKey}
 use Rattle.stale_model.specs.Faults.{IsWriteOf, IsReadIn, IsClearKey}
-use Rattle.stale_model.specs.Clusters.{AreClusters}
+use Rattle.stale_model.specs.Clusters.{AreClusters, writes_of}
 use Rattle.stale_model.specs.NamedWrites.{NamesItsWrites}
 use Rattle.stale_model.specs.Precedence.{Precedes}
 use Rattle.stale_model.specs.Orders.{is_write_record, IsAmongLast, IsOrder}
@@ -18,7 +19,6 @@ use Rattle.stale_model.specs.OperationOrders.{write_place, segment, operation_or
 use Rattle.stale_model.specs.Zones.{HasNoCrossing}
 use Rattle.model_laws.proofs.Named.{matched_keys_name_their_writes}
 use Rattle.model_laws.proofs.OrderPlaces.{reads_or_writes}
-use Rattle.stale_model.specs.Clusters.{writes_of}
 use Rattle.delta_score.specs.ZoneLaws.{ZoneOrdersAreOrders}
 use Rattle.delta_score.proofs.ClusterBounds.{finishes_from, finishes_before}
 use Rattle.delta_score.proofs.Once.{each_once_in_order}

@@ -16,7 +16,7 @@ use Rattle.stale_model.specs.Operations.{IsRead, IsWrite, is_write, records_of, 
 use Rattle.stale_model.specs.NamedWrites.{RecordsDiffer}
 use Rattle.stale_model.specs.Orders.{StandsAt, StandsBefore}
 use Rattle.stale_model.specs.OperationOrders.{segment, operation_order}
-use Rattle.model_laws.proofs.Places.{at_its_place, something_at, same_at, contains_at}
+use Rattle.stale_model.proofs.Places.{at_its_place, something_at, same_at, contains_at}
 use Rattle.delta_score.proofs.Comparisons.{nat_less, nat_same}
 use Rattle.delta_score.proofs.Once.{record_at}
 

@@ -2,9 +2,9 @@
 use Rattle.std.specs.Prelude.{◌≡◌, ℕ, ◌-◌, ◌<◌, ◌≤◌, List, Option, Some, None}
 use Rattle.stale_model.specs.declared.Cluster.{Cluster}
 use Rattle.stale_model.specs.declared.Four.{Four}
-use Rattle.stale_model.specs.Zones.{HasNoConflict, four_of}
+use Rattle.stale_model.specs.Zones.{HasNoConflict, four_of, IsPairOf}
 use Rattle.zones.specs.Conflicts.{HasConflict}
-use Rattle.zones.specs.Sweeps.{IsPairOf, IsOrderOf}
+use Rattle.zones.specs.Sweeps.{IsOrderOf}
 use Rattle.delta_score.specs.declared.least.Least.{Least}
 use Rattle.delta_score.specs.declared.least.Bounds.{Bounds}
 

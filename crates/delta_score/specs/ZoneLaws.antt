@@ -4,7 +4,8 @@ use Rattle.std.specs.List.Sorted.{IsPermutation}
 use Rattle.stale_model.specs.declared.Op.{Op}
 use Rattle.stale_model.specs.declared.KeyOps.{KeyOps}
 use Rattle.stale_model.specs.declared.Cluster.{Cluster}
-use Rattle.stale_model.specs.Operations.{operations, IsValidKey}
+use Rattle.stale_model.specs.Operations.{operations}
+use Rattle.stale_model.specs.Valid.{IsValidKey}
 use Rattle.stale_model.specs.Faults.{HasNone, IsEarly, IsMatchedKey, IsClearKey}
 use Rattle.stale_model.specs.Clusters.{writes_of, AreClusters}
 use Rattle.stale_model.specs.NamedWrites.{NamesItsWrites}
@@ -14,7 +15,7 @@ use Rattle.stale_model.specs.LeastDelta.{HasOrder}
 use Rattle.stale_model.specs.Zones.{last_start, AreInConflict, HasNoConflict, IsZoneOrder, HasNoCrossing, IsPair, four_of}
 use Rattle.stale_model.specs.OperationOrders.{IsOperationOrder}
 use Rattle.stale_model.specs.Refutations.{IsOfCluster}
-use Rattle.stale_model.specs.Judgements.{FourHold}
+use Rattle.stale_model.specs.Shown.{FourHold}
 use Rattle.delta_score.specs.WriteLists.{write_records}
 
 -- some operation of the cluster i precedes some operation of the cluster j at d

@@ -1,8 +1,9 @@
 ghost use Rattle.std.specs.Prelude.{◌≡◌, ℕ, ◌+◌, ◌-◌, ◌<◌, ◌≤◌, All, IfOk};
-ghost use Rattle.stale_model.specs.Zones.{HasNoConflict, four_of, last_record};
+ghost use Rattle.stale_model.specs.Zones.{HasNoConflict, four_of, last_record, IsFourOfPair};
 ghost use Rattle.zones.specs.Conflicts.{HasConflict};
-ghost use Rattle.zones.specs.Sweeps.{WriteRecordsDiffer, IsOrderOf};
-ghost use Rattle.delta_score.specs.Scores.{IsLeastWithoutConflict, IsFourOf, IsLeast, AreBounds, IsNarrowed};
+ghost use Rattle.stale_model.specs.Clusters.{WriteRecordsDiffer};
+ghost use Rattle.zones.specs.Sweeps.{IsOrderOf};
+ghost use Rattle.delta_score.specs.Scores.{IsLeastWithoutConflict, IsLeast, AreBounds, IsNarrowed};
 
 use crate::score::{pair_score, reads_start};
 use stale_model::{Cluster, Four, List, Memory};
@@ -107,7 +108,7 @@ fn last_record(d: u64, cluster: &Cluster) -> u32
 fn four_at(alloc: Global, d: u64, clusters: &[Cluster]) -> Result<Four, Memory>
     requires differ { WriteRecordsDiffer clusters.now }
     requires conflict { HasConflict d clusters.now }
-    ensures { IfOk result (IsFourOf d clusters.now) }
+    ensures { IfOk result (IsFourOfPair d clusters.now) }
 {
     match sweep_clusters(alloc, d, clusters)? {
         SweptClusters::Order(_) => unreachable!(),

@@ -1,5 +1,5 @@
 ghost use Rattle.std.specs.Prelude.{◌≡◌, ◌-◌, ◌*◌, ◌≤◌, ◌<◌, All, IfOk};
-ghost use Rattle.zones.specs.Sweeps.{WriteRecordsDiffer};
+ghost use Rattle.stale_model.specs.Clusters.{WriteRecordsDiffer};
 
 use super::*;
 use stale_model::{Cluster, Four, Memory};

@@ -8,7 +8,8 @@ use Rattle.std.specs.List.Sorted.{IsStrictlyIncreasing}
 use Rattle.std.specs.Str.{bytes_eq}
 use Rattle.stale_model.specs.declared.Kind.TheVariants.{Read}
 use Rattle.stale_model.specs.declared.History.{History}
-use Rattle.stale_model.specs.Operations.{IsValidHistory, IsValidKey, IsValidOp, records_of}
+use Rattle.stale_model.specs.Valid.{IsValidHistory, IsValidKey, IsValidOp}
+use Rattle.stale_model.specs.Operations.{records_of}
 use Rattle.history_csv.specs.declared.HistoryFault.{HistoryFault}
 use Rattle.history_csv.specs.declared.HistoryFault.TheVariants.{Memory}
 use Rattle.history_csv.specs.declared.header.Columns.{Columns}

@@ -2,7 +2,7 @@
 #![tactic(auto)]
 
 ghost use Rattle.std.specs.Prelude.{◌≡◌, ◌≢◌, ◌+◌, ◌⊎◌, Err, length, sum_by, IfOk};
-ghost use Rattle.stale_model.specs.Operations.{IsValidHistory};
+ghost use Rattle.stale_model.specs.Valid.{IsValidHistory};
 ghost use Rattle.history_csv.specs.Reading.{read_of, records_of, history_after};
 ghost use Rattle.history_csv.specs.Records.{IsReading, records_left};
 

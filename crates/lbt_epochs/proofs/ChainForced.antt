@@ -8,8 +8,8 @@ use Rattle.stale_model.specs.declared.End.TheVariants.{Hard, Soft}
 use Rattle.stale_model.specs.Orders.{StandsAt}
 use Rattle.stale_model.specs.Zones.{reads_start}
 use Rattle.stale_model.specs.Chains.{without, Demand, nothing, one, impossible, demand, Chain, ends, fails, cut, followed_by, chain_by, chain}
-use Rattle.model_laws.proofs.Places.{same_at, contains_at, place_of}
-use Rattle.model_laws.proofs.Sorted.{first_or_later}
+use Rattle.stale_model.proofs.Places.{same_at, contains_at, place_of}
+use Rattle.stale_model.proofs.Sorted.{first_or_later}
 use Rattle.lbt_epochs.proofs.ChainParts.{Apart, IsPart, WritesStandOnce, in_without}
 use Rattle.lbt_epochs.proofs.ChainDemands.{ReadsLate, WritesLate, TwoReadLate, one_reads_late, hard_writes_late, soft_reads_late}
 

@@ -8,8 +8,8 @@ use Rattle.stale_model.specs.declared.Cluster.{Cluster}
 use Rattle.stale_model.specs.Orders.{StandsAt}
 use Rattle.stale_model.specs.Zones.{reads_start}
 use Rattle.stale_model.specs.Chains.{without, late_writes, late_reads, is_later, latest}
-use Rattle.model_laws.proofs.Places.{contains_at, place_of}
-use Rattle.model_laws.proofs.Sorted.{first_or_later, contains_later}
+use Rattle.stale_model.proofs.Places.{contains_at, place_of}
+use Rattle.stale_model.proofs.Sorted.{first_or_later, contains_later}
 use Rattle.model_laws.proofs.Listings.{origin, origin_rises, origin_stands, passes_at}
 
 -- none of the clusters has the write of c

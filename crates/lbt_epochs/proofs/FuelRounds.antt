@@ -1,6 +1,5 @@
 -- The last round is none that repeats: its chains have room for all clusters.
-use Rattle.std.proofs.Common.{◌≡◌, ◌⊎◌, ℕ, zero, suc, ◌+◌, ◌-◌, ◌^◌, ◌<◌, ◌≤◌, Bool, true, false, not, cond, List, [], ◌∷◌, length}
-use Rattle.std.proofs.Common.{refl, ◌∙◌, ap, inl, inr, arith, add-one}
+use Rattle.std.proofs.Common.{◌≡◌, ◌⊎◌, ℕ, zero, suc, ◌+◌, ◌-◌, ◌^◌, ◌<◌, ◌≤◌, Bool, true, false, not, cond, List, [], ◌∷◌, length, refl, ◌∙◌, ap, inl, inr, arith, add-one}
 use Rattle.std.specs.Prelude.{Contains, ◌==◌}
 use Rattle.std.specs.List.{filter, list_any}
 use Rattle.std.proofs.lemmas.Bool.{eq-eqb, or_left, not_from_true}
@@ -8,9 +7,8 @@ use Rattle.std.proofs.lemmas.List.Sums.{length-filter, count_by-le-length}
 use Rattle.std.proofs.Math.Nat.{two-pow-succ}
 use Rattle.stale_model.specs.declared.Cluster.{Cluster}
 use Rattle.stale_model.specs.Orders.{StandsAt}
-use Rattle.stale_model.specs.Chains.{without, Demand, nothing, one, impossible, demand, Chain, ends, fails, cut, followed_by, chain_by, chain}
-use Rattle.stale_model.specs.Chains.{Round, removes, repeats, refutes, join, round, or_later, rounds}
-use Rattle.model_laws.proofs.Places.{place_of}
+use Rattle.stale_model.specs.Chains.{without, Demand, nothing, one, impossible, demand, Chain, ends, fails, cut, followed_by, chain_by, chain, Round, removes, repeats, refutes, join, round, or_later, rounds}
+use Rattle.stale_model.proofs.Places.{place_of}
 use Rattle.lbt_epochs.proofs.ChainDemands.{one_reads_late}
 
 -- a part is no longer than the whole

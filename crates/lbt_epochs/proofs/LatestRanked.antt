@@ -11,7 +11,7 @@ use Rattle.std.proofs.lemmas.List.MinMax.{IsFirstBest-from_best_of}
 use Rattle.stale_model.specs.declared.Cluster.{Cluster}
 use Rattle.stale_model.specs.Chains.{without, late_reads, is_later, latest, demand_of, demand}
 use Rattle.stale_model.specs.Zones.{reads_start}
-use Rattle.model_laws.proofs.Sorted.{first_or_later, contains_later}
+use Rattle.stale_model.proofs.Sorted.{first_or_later, contains_later}
 use Rattle.lbt_epochs.specs.Steps.{if_late}
 use Rattle.lbt_epochs.proofs.LeftFilters.{kept_is_there, kept_passes, kept_from, empty_has_none, contains_first, filter_within, filter_twice}
 

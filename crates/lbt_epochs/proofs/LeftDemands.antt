@@ -6,7 +6,7 @@ use Rattle.stale_model.specs.declared.Cluster.{Cluster}
 use Rattle.stale_model.specs.declared.End.TheVariants.{Hard, Soft}
 use Rattle.stale_model.specs.Chains.{demand, demand_of}
 use Rattle.stale_model.specs.Zones.{reads_start}
-use Rattle.model_laws.proofs.Places.{contains_at}
+use Rattle.stale_model.proofs.Places.{contains_at}
 use Rattle.lbt_epochs.specs.Lists.{Lists, left, cluster_at}
 use Rattle.lbt_epochs.specs.Steps.{clusters_left, if_late, IsReady, IsAsked}
 use Rattle.lbt_epochs.specs.declared.two.Asked.TheVariants.{Nothing, One, Impossible}

@@ -3,9 +3,9 @@ use Rattle.std.proofs.Common.{◌≡◌, ◌⊎◌, ℕ, zero, ◌+◌, ◌<◌,
 use Rattle.std.specs.Prelude.{Contains}
 use Rattle.std.specs.List.{filter}
 use Rattle.std.proofs.lemmas.List.{length-map, get_or-map}
-use Rattle.model_laws.proofs.Places.{contains_at, place_of}
+use Rattle.stale_model.proofs.Places.{contains_at, place_of}
 use Rattle.model_laws.proofs.Listings.{origin, origin_stands, passes_at, keeps}
-use Rattle.model_laws.proofs.Sorted.{first_or_later, contains_later}
+use Rattle.stale_model.proofs.Sorted.{first_or_later, contains_later}
 
 -- what a filter keeps is of the list
 pub kept_is_there : {X : Type 0} (passes : X → Bool) (xs : List X) (x : X) → Contains (filter passes xs) x → Contains xs x

@@ -4,8 +4,7 @@ use Rattle.std.specs.Prelude.{◌⊎◌, slice_set}
 use Rattle.std.proofs.lemmas.Bool.{cases_eq}
 use Rattle.std.proofs.lemmas.List.{get_or-set_same, get_or-set_other, set-set, set-get_or}
 use Rattle.lbt_epochs.specs.Links.{Links, after, before, tie, IsTied, unlinked, relinked, has, without, AreApart, IsChain}
-use Rattle.lbt_epochs.proofs.LinksHas.{has_at, had_not_lacked, has_cases, has_front, has_behind, lacks_front, lacks_behind, without_front}
-use Rattle.lbt_epochs.proofs.LinksHas.{without_other, without_lacked}
+use Rattle.lbt_epochs.proofs.LinksHas.{has_at, had_not_lacked, has_cases, has_front, has_behind, lacks_front, lacks_behind, without_front, without_other, without_lacked}
 
 -- a tie that is made is there
 pub tied_here : (links : Links) (u v : ℕ) → u < length links.next → v < length links.previous → IsTied (tie links u v) u v

@@ -1,6 +1,5 @@
 -- A ring of links from which places are left out one after another.
-use Rattle.std.proofs.Common.{◌≡◌, ℕ, zero, suc, ◌+◌, ◌<◌, true, false, not, cond, List, [], ◌∷◌, ◌++◌, length, get_or, Some, refl, ap, sym, subst}
-use Rattle.std.proofs.Common.{◌∙◌, inl, inr, arith}
+use Rattle.std.proofs.Common.{◌≡◌, ℕ, zero, suc, ◌+◌, ◌<◌, true, false, not, cond, List, [], ◌∷◌, ◌++◌, length, get_or, Some, refl, ap, sym, subst, ◌∙◌, inl, inr, arith}
 use Rattle.std.specs.Prelude.{◌==◌, slice_get, slice_set, Contains, nat_lt}
 use Rattle.std.proofs.lemmas.Bool.{cases_eq, cases_Bool, eq-eqb, ne_eqb, lt-ltb, le-ltb}
 use Rattle.std.proofs.lemmas.List.{set-get_or, length-set, get_or_past}
@@ -8,8 +7,7 @@ use Rattle.std.proofs.lemmas.List.Folds.{list_any_at}
 use Rattle.std.proofs.lemmas.Option.{slice_get_cases, same_Some, none-some, get_or_from_slice_get, slice_get_within}
 use Rattle.stale_model.specs.Orders.{StandsAt}
 use Rattle.lbt_epochs.specs.Lists.{left}
-use Rattle.lbt_epochs.specs.Links.{Links, after, before, IsTied, unlinked, relinked, place_after, has, without, AreApart, IsChain, IsRing}
-use Rattle.lbt_epochs.specs.Links.{unlinked_all, AreTakenFrom, AreLeft}
+use Rattle.lbt_epochs.specs.Links.{Links, after, before, IsTied, unlinked, relinked, place_after, has, without, AreApart, IsChain, IsRing, unlinked_all, AreTakenFrom, AreLeft}
 use Rattle.lbt_epochs.proofs.Sorted.{filter_all}
 use Rattle.lbt_epochs.proofs.LinksHas.{without_lacked, has_without, without_differs, has_from_without, AreApart-without, length-without}
 use Rattle.lbt_epochs.proofs.LinksChain.{tied_other, before_apart, after_apart, unlinked_chain, tied_both, relinked-unlinked, same_links}

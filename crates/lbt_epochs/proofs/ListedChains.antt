@@ -8,7 +8,7 @@ use Rattle.stale_model.specs.declared.Cluster.{Cluster}
 use Rattle.stale_model.specs.Chains.{without, Demand, demand, nothing, one, impossible, Chain, ends, fails, cut, chain_by, followed_by, chain}
 use Rattle.stale_model.specs.Clusters.{writes_of}
 use Rattle.stale_model.specs.Orders.{IsWithoutRepeats}
-use Rattle.model_laws.proofs.Sorted.{first_or_later, no_repeats_tail, permuted_no_repeats}
+use Rattle.stale_model.proofs.Sorted.{first_or_later, no_repeats_tail, permuted_no_repeats}
 use Rattle.lbt_epochs.proofs.ListedDemands.{MayStandBefore, AsksOne, asks_nothing, asks_one, differs, of_list}
 use Rattle.lbt_epochs.proofs.ListedParts.{one_and_rest, without_in_turn, without_none}
 

@@ -7,9 +7,9 @@ use Rattle.std.proofs.lemmas.Bool.{ltb-false, both_ways}
 use Rattle.stale_model.specs.declared.Cluster.{Cluster}
 use Rattle.stale_model.specs.Chains.{without, late_writes, late_reads, is_later, latest, demand_of, demand, nothing, one}
 use Rattle.stale_model.specs.Zones.{reads_start}
-use Rattle.model_laws.proofs.Places.{contains_at, place_of}
+use Rattle.stale_model.proofs.Places.{contains_at, place_of}
 use Rattle.model_laws.proofs.Listings.{origin, origin_stands, passes_at, keeps}
-use Rattle.model_laws.proofs.Sorted.{first_or_later, contains_later}
+use Rattle.stale_model.proofs.Sorted.{first_or_later, contains_later}
 
 -- what a filter lets through is of the list
 pub of_list : {X : Type 0} (passes : X → Bool) (xs : List X) (x : X) → Contains (filter passes xs) x → Contains xs x

@@ -12,8 +12,8 @@ use Rattle.stale_model.specs.Orders.{StandsAt, IsWithoutRepeats, ListsEachOnce}
 use Rattle.stale_model.specs.Listings.{IsListing}
 use Rattle.stale_model.specs.Zones.{reads_start}
 use Rattle.lbt_epochs.specs.TwoLaws.{ListingsAreAnswered}
-use Rattle.model_laws.proofs.Places.{contains_at}
-use Rattle.model_laws.proofs.Sorted.{contains_later, permuted_no_repeats, no_repeats_tail, no_repeats_from_map}
+use Rattle.stale_model.proofs.Places.{contains_at}
+use Rattle.stale_model.proofs.Sorted.{contains_later, permuted_no_repeats, no_repeats_tail, no_repeats_from_map}
 use Rattle.lbt_epochs.proofs.ListedDemands.{differs, of_list}
 use Rattle.lbt_epochs.proofs.ListedParts.{one_and_rest, without_in_turn}
 use Rattle.lbt_epochs.proofs.ListedChains.{AllBefore, MayBeNext, MayStand, chain_is_listed, reverse_first, rest_once}

@@ -9,7 +9,7 @@ use Rattle.stale_model.specs.declared.Cluster.{Cluster}
 use Rattle.stale_model.specs.Chains.{without}
 use Rattle.stale_model.specs.Clusters.{writes_of}
 use Rattle.stale_model.specs.Orders.{IsWithoutRepeats}
-use Rattle.model_laws.proofs.Sorted.{first_or_later, contains_later, no_repeats_tail, not_in_tail}
+use Rattle.stale_model.proofs.Sorted.{first_or_later, contains_later, no_repeats_tail, not_in_tail}
 
 filter_twice_by : (a b : Bool) (c : Cluster) (r t : List Cluster) (q : Cluster → Bool) → q c ≡ not b → r ≡ filter q t
     → cond (not (a || b)) (c ∷ r) r ≡ filter q (cond (not (a || false)) (c ∷ t) t)

@@ -5,8 +5,7 @@ use Rattle.std.proofs.lemmas.Option.{none-some}
 use Rattle.stale_model.specs.Orders.{StandsAt}
 use Rattle.lbt_epochs.specs.Lists.{Lists, with_placed, left}
 use Rattle.lbt_epochs.specs.Links.{Links, unlinked, relinked, place_after, has, AreTakenFrom, AreLeft, AreKept}
-use Rattle.lbt_epochs.proofs.LinksRing.{has_from_StandsAt, left_ring, unlinked_all_ring, first_read, next_read, placed_short, AreTakenFrom-push}
-use Rattle.lbt_epochs.proofs.LinksRing.{AreTakenFrom-front, AreLeft-push, AreLeft-front}
+use Rattle.lbt_epochs.proofs.LinksRing.{has_from_StandsAt, left_ring, unlinked_all_ring, first_read, next_read, placed_short, AreTakenFrom-push, AreTakenFrom-front, AreLeft-push, AreLeft-front}
 
 -- a place that is left has a node
 pub node_within : (places order placed : List ℕ) (links : Links) (at : ℕ) → AreTakenFrom places placed → AreLeft places order placed links

@@ -9,9 +9,9 @@ use Rattle.stale_model.specs.declared.Refutation.{Refutation}
 use Rattle.stale_model.specs.Operations.{IsWrite}
 use Rattle.stale_model.specs.Clusters.{writes_of}
 use Rattle.stale_model.specs.Refutations.{IsOfRecord, RefutationHolds, TryHolds}
-use Rattle.model_laws.proofs.Places.{contains_at}
+use Rattle.stale_model.proofs.Places.{contains_at}
 use Rattle.model_laws.proofs.ClustersOne.{cluster_writes_differ}
-use Rattle.model_laws.proofs.Sorted.{permuted_no_repeats}
+use Rattle.stale_model.proofs.Sorted.{permuted_no_repeats}
 use Rattle.lbt_epochs.specs.TwoLaws.{RefutationsAreAnswered}
 use Rattle.lbt_epochs.proofs.RefutedRounds.{IsRefuted, epochs_are_refuted}
 use Rattle.lbt_epochs.proofs.RefutedClusters.{AreOfWrites, cluster_at_write, member_of_write, writes_once, writes_differ, try_holds}

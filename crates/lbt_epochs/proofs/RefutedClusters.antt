@@ -15,7 +15,7 @@ use Rattle.stale_model.specs.Orders.{StandsAt, IsWithoutRepeats}
 use Rattle.stale_model.specs.Clusters.{IsReadOf, AreReadsOf, IsClusterOf, writes_of}
 use Rattle.stale_model.specs.Zones.{reads_start}
 use Rattle.stale_model.specs.Refutations.{IsOfRecord, IsOfCluster, IsUnplaced, Forces, HardHolds, IsLateRead, SoftHolds, EndHolds, TryHolds}
-use Rattle.model_laws.proofs.Places.{something_at, same_at, contains_at, place_of}
+use Rattle.stale_model.proofs.Places.{something_at, same_at, contains_at, place_of}
 use Rattle.lbt_epochs.proofs.ChainParts.{Apart, IsPart, WritesStandOnce}
 use Rattle.lbt_epochs.proofs.ChainForced.{IsHardEnd, IsSoftEnd, IsEnd, IsForcedChain}
 use Rattle.lbt_epochs.proofs.RefutedRounds.{IsForcedTry}

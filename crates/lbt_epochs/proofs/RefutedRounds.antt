@@ -1,6 +1,5 @@
 -- Where an epoch refutes what is left, each of its chains fails.
-use Rattle.std.proofs.Common.{◌≡◌, ◌⊎◌, ℕ, zero, suc, ◌+◌, ◌-◌, ◌^◌, ◌<◌, not, List, [], ◌∷◌, ◌++◌, reverse, length}
-use Rattle.std.proofs.Common.{refl, sym, ap, inl, inr, subst, arith}
+use Rattle.std.proofs.Common.{◌≡◌, ◌⊎◌, ℕ, zero, suc, ◌+◌, ◌-◌, ◌^◌, ◌<◌, not, List, [], ◌∷◌, ◌++◌, reverse, length, refl, sym, ap, inl, inr, subst, arith}
 use Rattle.std.specs.Prelude.{◌==◌}
 use Rattle.std.specs.List.{list_any}
 use Rattle.stale_model.specs.declared.Cluster.{Cluster}
@@ -11,8 +10,7 @@ use Rattle.stale_model.specs.declared.Two.{Two}
 use Rattle.stale_model.specs.declared.Two.TheVariants.{Yes, No}
 use Rattle.stale_model.specs.Orders.{StandsAt}
 use Rattle.stale_model.specs.Clusters.{writes_of}
-use Rattle.stale_model.specs.Chains.{without, Chain, ends, fails, cut, chain}
-use Rattle.stale_model.specs.Chains.{Round, removes, repeats, refutes, join, round, or_later, rounds, epoch_by, epochs}
+use Rattle.stale_model.specs.Chains.{without, Chain, ends, fails, cut, chain, Round, removes, repeats, refutes, join, round, or_later, rounds, epoch_by, epochs}
 use Rattle.lbt_epochs.proofs.ChainParts.{IsPart, WritesStandOnce, in_part, part_differs, in_without}
 use Rattle.lbt_epochs.proofs.ChainForced.{IsForcedChain, chain_is_forced}
 use Rattle.lbt_epochs.proofs.FuelRounds.{rounds_end}

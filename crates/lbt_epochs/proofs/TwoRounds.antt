@@ -7,7 +7,7 @@ use Rattle.stale_model.specs.declared.Cluster.{Cluster}
 use Rattle.stale_model.specs.declared.End.{End}
 use Rattle.stale_model.specs.declared.Try.{Try}
 use Rattle.stale_model.specs.Chains.{Chain, ends, fails, cut, Round, removes, repeats, refutes, join, round, writes_of}
-use Rattle.model_laws.proofs.Places.{contains_at}
+use Rattle.stale_model.proofs.Places.{contains_at}
 use Rattle.lbt_epochs.specs.Lists.{Lists, left, cluster_at}
 use Rattle.lbt_epochs.specs.Steps.{clusters_left, chain_at, IsRun, HasFailed, IsCut, HasRemoved, HasKept}
 use Rattle.lbt_epochs.specs.declared.two.Ran.TheVariants.{Ends}

@@ -1,6 +1,5 @@
 -- Places that are linked in a ring, each with the one before it and the one after it. One more node stands for both ends.
-use Rattle.std.specs.Prelude.{◌≡◌, ℕ, ◌+◌, ◌<◌, ◌≤◌, ◌^◌, nat_lt, ◌==◌, not, Bool, true, false, List, [], ◌∷◌, filter, length, slice_index, slice_set}
-use Rattle.std.specs.Prelude.{if◌then◌else◌, Option, Some, None}
+use Rattle.std.specs.Prelude.{◌≡◌, ℕ, ◌+◌, ◌<◌, ◌≤◌, ◌^◌, nat_lt, ◌==◌, not, Bool, true, false, List, [], ◌∷◌, filter, length, slice_index, slice_set, if◌then◌else◌, Option, Some, None}
 use Rattle.std.specs.List.{list_any, range_with_len}
 use Rattle.lbt_epochs.specs.Lists.{Lists}
 

@@ -109,6 +109,41 @@ pub struct Op {
     pub slack: u64,
 }
 
+/// The write of "absent" that stands before all operations of a key: record 0, tick 0, value 0.
+pub const INITIAL_WRITE: Op = Op {
+    rec: 0,
+    client: 0,
+    kind: Kind::Write,
+    value: 0,
+    start: 0,
+    finish: 0,
+    slack: 0,
+};
+
+impl Op {
+    ghost use Rattle.std.specs.Prelude.{◌≡◌, ◌^◌, ◌<◌};
+    ghost use Rattle.stale_model.specs.Operations.{earliest_start, latest_finish};
+
+    /// The least tick at which the operation may have started: 0 for the initial write, at least 1 for any other.
+    pub fn earliest_start(&self) -> u64
+        ensures { result ≡ earliest_start self.now }
+    {
+        if self.rec == 0 {
+            0
+        } else {
+            self.start.saturating_sub(self.slack).max(1)
+        }
+    }
+
+    /// The greatest tick at which the operation may have finished.
+    pub fn latest_finish(&self) -> u64
+        requires { latest_finish self.now < 2 ^ 64 }
+        ensures { result ≡ latest_finish self.now }
+    {
+        self.finish + self.slack
+    }
+}
+
 /// A key with its operations.
 #[derive(Drop, Debug)]
 pub struct KeyOps {
@@ -144,6 +179,18 @@ pub struct Cluster {
     pub first: u32,
     /// The least record of a read that starts at `s`; the write's record without reads.
     pub last: u32,
+}
+
+impl Cluster {
+    ghost use Rattle.std.specs.Prelude.{◌≡◌};
+    ghost use Rattle.stale_model.specs.Zones.{reads_start};
+
+    /// The greatest earliest start of the reads; 0 without reads.
+    pub fn reads_start(&self) -> u64
+        ensures { result ≡ reads_start self.now }
+    {
+        self.s.unwrap_or(0)
+    }
 }
 
 /// The records of a conflict of two clusters: p precedes q, and q2 precedes p2, where p and p2 are of

@@ -4,7 +4,8 @@
 ghost use Rattle.std.specs.Prelude.{◌≡◌, ◌+◌, ◌<◌, ◌≤◌, ◌++◌, ◌∷◌, [], List, length, IfOk, OnOk, codes, sum_by, count_by};
 ghost use Rattle.std.specs.Fmt.{decimal};
 ghost use Rattle.std.specs.String.{string_bytes};
-ghost use Rattle.stale_model.specs.Operations.{IsValidHistory, initial_write};
+ghost use Rattle.stale_model.specs.Valid.{IsValidHistory};
+ghost use Rattle.stale_model.specs.Operations.{initial_write};
 ghost use Rattle.staleness_report.specs.Escaped.{hex_digit, escaped_byte, escaped};
 ghost use Rattle.staleness_report.specs.Report.{is_duplicate, is_unmatched, is_infinite, is_atomic, is_two_atomic, worse, worst_delta, value_of_record, write_of_value, cluster_of_record, pair_text, two_text, verdict_text, key_line, key_lines, sizes_text, faults_text, deltas_text, total_line, report_text};
 

@@ -6,11 +6,10 @@ use Rattle.std.proofs.lemmas.Bool.{cases_order}
 use Rattle.std.proofs.lemmas.Option.{slice_get-map}
 use Rattle.std.proofs.lemmas.List.Sorted.{IsPermutation-map, IsPermutation-sym, Contains-permutation}
 use Rattle.stale_model.specs.declared.Cluster.{Cluster}
-use Rattle.stale_model.specs.Clusters.{writes_of}
+use Rattle.stale_model.specs.Clusters.{writes_of, WriteRecordsDiffer}
 use Rattle.stale_model.specs.Orders.{StandsAt}
-use Rattle.stale_model.specs.Zones.{HasNoConflict, IsZoneOrder, Crosses, HasNoCrossing, IsPair}
+use Rattle.stale_model.specs.Zones.{HasNoConflict, IsZoneOrder, Crosses, HasNoCrossing, IsPair, IsPairOf}
 use Rattle.zones.specs.Conflicts.{IsConflict}
-use Rattle.zones.specs.Sweeps.{WriteRecordsDiffer, IsPairOf}
 use Rattle.zones.proofs.Places.{place_of, same_at, Contains-at, IsWithoutRepeats-IsPermutation}
 use Rattle.zones.proofs.ZoneOrder.{not_before}
 use Rattle.zones.proofs.Conflicts.{crossing-conflicts}

@@ -5,8 +5,8 @@
 
 ghost use Rattle.std.specs.Prelude.{◌≡◌, ◌<◌, ◌↔◌, IsTrue, IfOk, MatchOption};
 ghost use Rattle.stale_model.specs.Zones.{last_start, AreInConflict, zone_order, IsZoneOrder, HasNoCrossing, IsPair};
-ghost use Rattle.stale_model.specs.Clusters.{writes_of};
-ghost use Rattle.zones.specs.Sweeps.{WriteRecordsDiffer, IsFirstCrossing, IsClusterSweep, IsSweep};
+ghost use Rattle.stale_model.specs.Clusters.{writes_of, WriteRecordsDiffer};
+ghost use Rattle.zones.specs.Sweeps.{IsFirstCrossing, IsClusterSweep, IsSweep};
 
 use stale_model::{Cluster, List, Memory};
 use std::alloc::{AllocError, Global};

@@ -1,10 +1,11 @@
 use Rattle.std.proofs.lemmas.Result.{IfOk-weaker}
 use Rattle.stale_model.specs.Operations.{operations}
-use Rattle.stale_model.specs.Verdicts.{IsVerdict, IsTrueOf}
+use Rattle.stale_model.specs.PrintedVerdicts.{IsPrintedVerdict}
+use Rattle.stale_model.specs.Truth.{IsTrueOf}
 use Rattle.audit_workers.proofs.Truth.{verdicts_are_true}
 use Rattle.audit_workers.proofs.judge_key.Goals as goal
 
 pub returns-clause-truth : goal.returns-clause-truth
 returns-clause-truth c =
     let ops = operations c.args.key.now in
-    IfOk-weaker c.verdict_of.result (IsVerdict ops) (IsTrueOf ops) (λ verdict is. verdicts_are_true c.args.key.now verdict c.requires is) c.verdict_of.ensures
+    IfOk-weaker c.verdict_of.result (IsPrintedVerdict ops) (IsTrueOf ops) (λ verdict is. verdicts_are_true c.args.key.now verdict c.requires is) c.verdict_of.ensures

@@ -1,6 +1,7 @@
 use Rattle.std.proofs.Common.{List, length}
 use Rattle.stale_model.specs.declared.KeyOps.{KeyOps}
-use Rattle.stale_model.specs.Operations.{operations, IsValidKey}
+use Rattle.stale_model.specs.Operations.{operations}
+use Rattle.stale_model.specs.Valid.{IsValidKey}
 use Rattle.stale_model.specs.Faults.{IsDuplicate, HasNone}
 use Rattle.stale_model.specs.Clusters.{IsClusterOf}
 use Rattle.clusters.specs.Tables.{IsClusterTable}

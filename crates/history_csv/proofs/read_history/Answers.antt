@@ -5,7 +5,7 @@ use Rattle.history_csv.specs.Records.{records_left}
 use Rattle.history_csv.specs.Reading.{records_of}
 use Rattle.history_csv.proofs.ValidFacts.{history-valid, history_after-shows}
 use Rattle.history_csv.proofs.HistoryFacts.{history-records}
-use Rattle.stale_model.specs.Operations.{IsValidHistory}
+use Rattle.stale_model.specs.Valid.{IsValidHistory}
 use Rattle.history_csv.proofs.Counts.{skipped-and-kept}
 use Rattle.history_csv.proofs.ReadSteps.{read-none, read-header, read-column}
 use Rattle.history_csv.proofs.read_history.Goals as goal
