@@ -4,13 +4,15 @@ use Rattle.std.specs.Prelude.{Contains}
 use Rattle.std.specs.Option.{option_map}
 use Rattle.std.proofs.lemmas.Bool.{cases_order}
 use Rattle.std.proofs.lemmas.Option.{slice_get-map}
-use Rattle.std.proofs.lemmas.List.Sorted.{IsPermutation-map, IsPermutation-sym, Contains-permutation}
+use Rattle.std.proofs.lemmas.List.Sorted.{IsPermutation-sym, Contains-permutation}
 use Rattle.stale_model.specs.declared.Cluster.{Cluster}
-use Rattle.stale_model.specs.Clusters.{writes_of, WriteRecordsDiffer}
+use Rattle.stale_model.specs.Clusters.{WriteRecordsDiffer}
 use Rattle.stale_model.specs.Orders.{StandsAt}
-use Rattle.stale_model.specs.Zones.{HasNoConflict, IsZoneOrder, Crosses, HasNoCrossing, IsPair, IsPairOf}
+use Rattle.stale_model.specs.Zones.{HasNoConflict, IsZoneOrder, Crosses, HasNoCrossing, IsPair}
+use Rattle.stale_model.proofs.Places.{contains_at, place_of, same_at}
+use Rattle.stale_model.proofs.Sorted.{permuted_no_repeats}
 use Rattle.zones.specs.Conflicts.{IsConflict}
-use Rattle.zones.proofs.Places.{place_of, same_at, Contains-at, IsWithoutRepeats-IsPermutation}
+use Rattle.zones.specs.Sweeps.{IsPairInConflict}
 use Rattle.zones.proofs.ZoneOrder.{not_before}
 use Rattle.zones.proofs.Conflicts.{crossing-conflicts}
 
@@ -24,11 +26,11 @@ same_place zones a b i j differ first second same =
 -- the zone order repeats no write record
 pub zones-differ : (d : ℕ) (clusters zones : List Cluster) → WriteRecordsDiffer clusters → IsZoneOrder d clusters zones → WriteRecordsDiffer zones
 zones-differ d clusters zones differ order =
-    IsWithoutRepeats-IsPermutation (writes_of clusters) (writes_of zones) (IsPermutation-map (λ c. c.write) clusters zones order.each_once) differ
+    permuted_no_repeats (λ c. c.write) clusters zones order.each_once differ
 
 module _ (d : ℕ) (clusters zones : List Cluster) (differ : WriteRecordsDiffer clusters) (order : IsZoneOrder d clusters zones) where
   contained : (k : ℕ) (c : Cluster) → StandsAt zones k c → Contains clusters c
-  contained k c at = Contains-permutation zones clusters c (IsPermutation-sym clusters zones order.each_once) (Contains-at zones k c at)
+  contained k c at = Contains-permutation zones clusters c (IsPermutation-sym clusters zones order.each_once) (contains_at zones k c at)
 
   -- a zone that crosses an earlier one is in conflict with it
   pub crossing-is_conflict : (earlier later : ℕ) (i j : Cluster) → Crosses d zones earlier later i j → IsConflict d clusters i j
@@ -39,11 +41,9 @@ module _ (d : ℕ) (clusters zones : List Cluster) (differ : WriteRecordsDiffer 
     conflict = crossing-conflicts d i j (not_before d zones earlier later i j order.sorted c.first c.second c.rises) c.crosses;
   }
 
-  pub pair_of_clusters : (i j : Cluster) → IsPair d zones i j → IsPairOf d clusters i j
+  pub pair_of_clusters : (i j : Cluster) → IsPair d zones i j → IsPairInConflict d clusters i j
   pair_of_clusters i j pair = record {
-    zones = zones;
-    zone_order = order;
-    pair = pair;
+    pair = record { zones = zones; zone_order = order; pair = pair };
     conflict = crossing-is_conflict pair.earlier pair.later i j pair.crosses;
   }
 

@@ -5,8 +5,8 @@ use Rattle.std.proofs.lemmas.Option.{slice_get_within}
 use Rattle.stale_model.specs.declared.Cluster.{Cluster}
 use Rattle.stale_model.specs.Orders.{StandsAt}
 use Rattle.stale_model.specs.Zones.{last_start, Crosses, HasNoCrossing}
+use Rattle.stale_model.proofs.Places.{same_at}
 use Rattle.zones.specs.Sweeps.{IsFirstCrossing}
-use Rattle.zones.proofs.Places.{same_at}
 
 -- a zone before this place has its s above f
 pub record IsAbove (d : ℕ) (zones : List Cluster) (place f : ℕ) : Type 0 where

@@ -1,4 +1,3 @@
-pub mod Places
 pub mod ZoneOrder
 pub mod Conflicts
 pub mod Crossings

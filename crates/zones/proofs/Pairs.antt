@@ -1,4 +1,4 @@
--- The pair: the first zone that crosses an earlier one, and the earliest that it crosses.
+-- The pair: the first zone that crosses an earlier one, and the one that it crosses.
 use Rattle.std.proofs.Common.{◌≡◌, ℕ, ◌<◌, ◌≤◌, List, length, refl, sym, inl, inr, arith}
 use Rattle.std.specs.List.{AllWithin, HoldsAt}
 use Rattle.std.proofs.lemmas.Bool.{cases_lt}
@@ -30,6 +30,5 @@ pair_from_first d zones i j place first within here above low =
       earlier = place;
       later = first.later;
       crosses = record { first = at; second = c.second; rises = omega arith; crosses = above };
-      first_later = first.first;
-      first_earlier = λ a x crossing. at_or_after d zones j.f place a x low crossing.first crossing.crosses;
+      first = first.first;
     }

@@ -18,7 +18,7 @@ pub enum Swept {
     /// No two clusters are in conflict: all of them in the zone order.
     Order(List<u32>),
     /// The first cluster of the zone order with an operation that precedes one of an earlier cluster,
-    /// and the earliest such cluster. The two are in conflict.
+    /// and that earlier cluster. The two are in conflict.
     Pair { earlier: u32, later: u32 },
 }
 
@@ -28,7 +28,7 @@ pub enum SweptClusters {
     /// No two clusters are in conflict: all of them in the zone order.
     Order(List<Cluster>),
     /// The first cluster of the zone order with an operation that precedes one of an earlier cluster,
-    /// and the earliest such cluster. The two are in conflict.
+    /// and that earlier cluster. The two are in conflict.
     Pair { earlier: Cluster, later: Cluster },
 }
 
