@@ -1,2 +1,4 @@
 pub mod Places
+pub mod Comparisons
 pub mod Sorted
+pub mod Lookup

@@ -4,7 +4,9 @@
 ghost use Rattle.std.specs.Prelude.{◌≡◌, ℕ, List, IfOk};
 
 use std::alloc::Global;
+use std::iter::{self, Chain, Copied, Once};
 use std::marker::Model;
+use std::slice;
 
 /// Want of memory: the one answer that every call which allocates may give.
 #[derive(Clone, Copy, Debug, PartialEq, Eq)]
@@ -152,6 +154,36 @@ pub struct KeyOps {
     pub values: List<Bytes>,
     /// The operations in rising order of record, without the initial write.
     pub ops: List<Op>,
+}
+
+impl KeyOps {
+    ghost use Rattle.std.specs.Prelude.{◌≡◌, Some, false};
+    ghost use Rattle.std.specs.Iterator.Adapters.{once_item, chain_first, chain_second, chain_first_done, chain_second_done, copied_source};
+    ghost use Rattle.std.specs.Slice.Iter.{iter_rest};
+    ghost use Rattle.stale_model.specs.Operations.{initial_write, operations, value_of_record};
+    ghost use Rattle.stale_model.specs.Valid.{IsValidKey};
+
+    /// All operations of the key, the initial write first.
+    pub fn operations(&self) -> Chain<Once<Op>, Copied<slice::Iter<'_, Op>>>
+        ensures initial { once_item (chain_first result) ≡ Some initial_write }
+        ensures initial_left { chain_first_done result ≡ false }
+        ensures others { iter_rest (copied_source (chain_second result)) ≡ self.now.ops }
+        ensures others_left { chain_second_done result ≡ false }
+    {
+        iter::once(INITIAL_WRITE).chain(self.ops.as_slice().iter().copied())
+    }
+
+    /// The value of the operation with this record; 0 where the key has none. Takes log n in the operations.
+    pub fn value_of(&self, rec: u32) -> u32
+        requires { IsValidKey self.now }
+        ensures { result ≡ value_of_record (operations self.now) rec }
+    {
+        let ops = self.ops.as_slice();
+        match ops.binary_search_by_key(&rec, |op| op.rec) {
+            Ok(place) => ops[place].value,
+            Err(_) => 0,
+        }
+    }
 }
 
 /// A history: its keys in order of first appearance.
