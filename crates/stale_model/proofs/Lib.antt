@@ -1,2 +1,5 @@
 pub mod Places
 pub mod Sorted
+pub mod ZoneOrders
+pub mod Returned
+pub mod ClustersOne
