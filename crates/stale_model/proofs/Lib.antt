@@ -2,3 +2,6 @@ pub mod Places
 pub mod Comparisons
 pub mod Sorted
 pub mod Lookup
+pub mod ZoneOrders
+pub mod Returned
+pub mod ClustersOne
