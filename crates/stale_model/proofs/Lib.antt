@@ -5,3 +5,4 @@ pub mod Lookup
 pub mod ZoneOrders
 pub mod Returned
 pub mod ClustersOne
+pub mod Sorting
