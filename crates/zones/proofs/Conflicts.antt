@@ -1,20 +1,14 @@
 -- Conflicts, by numbers alone.
-use Rattle.std.proofs.Common.{◌≡◌, ℕ, ◌+◌, ◌<◌, ◌≤◌, false, List, arith}
+use Rattle.std.proofs.Common.{ℕ, ◌+◌, ◌≤◌, List, arith}
 use Rattle.std.specs.Prelude.{All}
-use Rattle.std.specs.Ordering.{is_lt}
-use Rattle.std.proofs.lemmas.Bool.Decides.{nat_tests}
 use Rattle.std.proofs.lemmas.List.Elements.{All-contains}
 use Rattle.stale_model.specs.declared.Cluster.{Cluster}
-use Rattle.stale_model.specs.Zones.{reads_start, last_start, AreInConflict, HasNoConflict, zone_order}
+use Rattle.stale_model.specs.Zones.{reads_start, last_start, AreInConflict, HasNoConflict}
 use Rattle.zones.specs.Conflicts.{HasConflict}
 
 -- conflicts are mutual
 pub AreInConflict-sym : (d : ℕ) (i j : Cluster) → AreInConflict d i j → AreInConflict d j i
 AreInConflict-sym d i j c = record { there = c.back; back = c.there }
-
--- where a zone doesn't come before i in the zone order, and has an operation that precedes one of i, the two are in conflict
-pub crossing-conflicts : (d : ℕ) (i j : Cluster) → is_lt (zone_order d j i) ≡ false → j.f < last_start d i → AreInConflict d i j
-crossing-conflicts d i j order back = record { there = grind (arith, nat_tests); back = back }
 
 -- in conflict at e, in conflict at each lesser d
 pub AreInConflict-lesser : (d e : ℕ) (i j : Cluster) → d ≤ e → AreInConflict e i j → AreInConflict d i j

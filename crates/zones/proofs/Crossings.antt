@@ -11,10 +11,9 @@ use Rattle.stale_model.specs.Orders.{StandsAt}
 use Rattle.stale_model.specs.Zones.{HasNoConflict, IsZoneOrder, Crosses, HasNoCrossing, IsPair}
 use Rattle.stale_model.proofs.Places.{contains_at, place_of, same_at}
 use Rattle.stale_model.proofs.Sorted.{permuted_no_repeats}
+use Rattle.stale_model.proofs.ZoneOrders.{not_before, crossing_conflicts}
 use Rattle.zones.specs.Conflicts.{IsConflict}
 use Rattle.zones.specs.Sweeps.{IsPairInConflict}
-use Rattle.zones.proofs.ZoneOrder.{not_before}
-use Rattle.zones.proofs.Conflicts.{crossing-conflicts}
 
 -- clusters with one write record stand at one place
 same_place : (zones : List Cluster) (a b : ℕ) (i j : Cluster) → WriteRecordsDiffer zones → StandsAt zones a i → StandsAt zones b j → i.write ≡ j.write → a ≡ b
@@ -38,7 +37,7 @@ module _ (d : ℕ) (clusters zones : List Cluster) (differ : WriteRecordsDiffer 
     i_there = contained earlier i c.first;
     j_there = contained later j c.second;
     apart = λ same. let e = same_place zones earlier later i j (zones-differ d clusters zones differ order) c.first c.second same in let r = c.rises in omega arith;
-    conflict = crossing-conflicts d i j (not_before d zones earlier later i j order.sorted c.first c.second c.rises) c.crosses;
+    conflict = crossing_conflicts d i j (not_before d zones earlier later i j order.sorted c.first c.second c.rises) c.crosses;
   }
 
   pub pair_of_clusters : (i j : Cluster) → IsPair d zones i j → IsPairInConflict d clusters i j

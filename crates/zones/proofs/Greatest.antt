@@ -6,7 +6,7 @@ use Rattle.stale_model.specs.declared.Cluster.{Cluster}
 use Rattle.stale_model.specs.Orders.{StandsAt}
 use Rattle.stale_model.specs.Zones.{last_start, Crosses, HasNoCrossing}
 use Rattle.stale_model.proofs.Places.{same_at}
-use Rattle.zones.specs.Sweeps.{IsFirstCrossing}
+use Rattle.zones.specs.Sweeps.{IsLaterOfPair}
 
 -- a zone before this place has its s above f
 pub record IsAbove (d : ℕ) (zones : List Cluster) (place f : ℕ) : Type 0 where
@@ -24,16 +24,18 @@ pub record IsGreatestBefore (d : ℕ) (zones : List Cluster) (place greatest : �
 
 -- the zone at the place crosses an earlier one
 pub crossing_at : (d : ℕ) (zones : List Cluster) (place greatest : ℕ) (zone : Cluster) → IsGreatestBefore d zones place greatest → StandsAt zones place zone
-    → zone.f < greatest → IsFirstCrossing d zones zone
+    → zone.f < greatest → IsLaterOfPair d zones zone
 crossing_at d zones place greatest zone g at low =
     let above = g.reached zone.f low in
-    record {
-      earlier = above.earlier;
-      later = place;
-      i = above.i;
-      crosses = record { first = above.at; second = at; rises = above.before; crosses = above.above };
-      first = g.none;
-    }
+    (
+      above.i,
+      record {
+        earlier = above.earlier;
+        later = place;
+        crosses = record { first = above.at; second = at; rises = above.before; crosses = above.above };
+        first = g.none;
+      },
+    )
 
 module _ (d : ℕ) (zones : List Cluster) (place greatest : ℕ) (zone : Cluster) (g : IsGreatestBefore d zones place greatest) (at : StandsAt zones place zone) where
   bound_more : (a : ℕ) (x : Cluster) → StandsAt zones a x → a < place + 1 → last_start d x ≤ max greatest (last_start d zone)

@@ -1,4 +1,3 @@
-pub mod ZoneOrder
 pub mod Conflicts
 pub mod Crossings
 pub mod Greatest

@@ -6,7 +6,7 @@ use Rattle.std.proofs.lemmas.Option.{slice_get_read, get_or_from_slice_get}
 use Rattle.stale_model.specs.declared.Cluster.{Cluster}
 use Rattle.stale_model.specs.Orders.{StandsAt}
 use Rattle.stale_model.specs.Zones.{last_start, IsPair}
-use Rattle.zones.specs.Sweeps.{IsFirstCrossing}
+use Rattle.zones.specs.Sweeps.{IsLaterOfPair}
 
 -- where the zones before a place have no s above f, a zone with s above f stands there or later
 at_or_after : (d : ℕ) (zones : List Cluster) (f place a : ℕ) (x : Cluster) → AllWithin (λ z. last_start d z ≤ f) zones 0 place → StandsAt zones a x → f < last_start d x → place ≤ a
@@ -19,16 +19,16 @@ at_or_after d zones f place a x low at above = elim (cases_lt a place) [
   | inr after ↦ after
 ]
 
-pub pair_from_first : (d : ℕ) (zones : List Cluster) (i j : Cluster) (place : ℕ) → IsFirstCrossing d zones j → place < length zones → HoldsAt (λ z. z ≡ i) zones place
+pub pair_from_first : (d : ℕ) (zones : List Cluster) (i j : Cluster) (place : ℕ) → IsLaterOfPair d zones j → place < length zones → HoldsAt (λ z. z ≡ i) zones place
     → j.f < last_start d i → AllWithin (λ z. last_start d z ≤ j.f) zones 0 place → IsPair d zones i j
-pair_from_first d zones i j place first within here above low =
-    let c = first.crosses in
+pair_from_first d zones i j place (x, pair) within here above low =
+    let c = pair.crosses in
     let at : StandsAt zones place i = slice_get_read zones (length zones) place i refl within (sym (here i)) in
-    let known = at_or_after d zones j.f place first.earlier first.i low c.first c.crosses in
+    let known = at_or_after d zones j.f place pair.earlier x low c.first c.crosses in
     let rises = c.rises in
     record {
       earlier = place;
-      later = first.later;
+      later = pair.later;
       crosses = record { first = at; second = c.second; rises = omega arith; crosses = above };
-      first = first.first;
+      first = pair.first;
     }

@@ -1,21 +1,17 @@
 -- What a sweep over the zones of clusters finds at d.
-use Rattle.std.specs.Prelude.{◌≡◌, ℕ, ◌≤◌, List}
+use Rattle.std.specs.Prelude.{◌≡◌, ℕ, List}
 use Rattle.stale_model.specs.declared.Cluster.{Cluster}
 use Rattle.stale_model.specs.Clusters.{writes_of}
-use Rattle.stale_model.specs.Zones.{HasNoConflict, IsZoneOrder, Crosses, IsPairOf}
+use Rattle.stale_model.specs.Zones.{HasNoConflict, IsZoneOrder, IsPair, IsPairOf}
 use Rattle.zones.specs.declared.Swept.{Swept}
 use Rattle.zones.specs.declared.Swept.TheVariants.{Order, Pair}
 use Rattle.zones.specs.declared.SweptClusters.{SweptClusters}
 use Rattle.zones.specs.declared.SweptClusters.TheVariants.{Order as ClusterOrder, Pair as ClusterPair}
 use Rattle.zones.specs.Conflicts.{IsConflict}
 
--- j is the first zone that crosses an earlier one
-pub record IsFirstCrossing (d : ℕ) (zones : List Cluster) (j : Cluster) : Type 0 where
-  pub earlier : ℕ
-  pub later : ℕ
-  pub i : Cluster
-  pub crosses : Crosses d zones earlier later i j
-  pub first : (a b : ℕ) (x y : Cluster) → Crosses d zones a b x y → later ≤ b
+-- j is the later one of a pair
+abbrev pub IsLaterOfPair : ℕ → List Cluster → Cluster → Type 0
+IsLaterOfPair d zones j = (i : Cluster) × IsPair d zones i j
 
 -- i and j are the pair at d, and two of the clusters in conflict
 pub record IsPairInConflict (d : ℕ) (clusters : List Cluster) (i j : Cluster) : Type 0 where

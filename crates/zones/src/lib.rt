@@ -6,7 +6,7 @@
 ghost use Rattle.std.specs.Prelude.{◌≡◌, ◌<◌, ◌↔◌, IsTrue, IfOk, MatchOption};
 ghost use Rattle.stale_model.specs.Zones.{last_start, AreInConflict, zone_order, IsZoneOrder, HasNoCrossing, IsPair};
 ghost use Rattle.stale_model.specs.Clusters.{writes_of, WriteRecordsDiffer};
-ghost use Rattle.zones.specs.Sweeps.{IsFirstCrossing, IsClusterSweep, IsSweep};
+ghost use Rattle.zones.specs.Sweeps.{IsLaterOfPair, IsClusterSweep, IsSweep};
 
 use stale_model::{Cluster, List, Memory};
 use std::alloc::{AllocError, Global};
@@ -71,7 +71,7 @@ fn in_zone_order(alloc: Global, d: u64, clusters: &[Cluster]) -> Result<Vec<Clus
 
 // The first zone with an operation that precedes one of an earlier zone at d.
 fn first_crossing(d: u64, zones: &[Cluster]) -> Option<Cluster>
-    ensures { MatchOption result (HasNoCrossing d zones.now) (IsFirstCrossing d zones.now) }
+    ensures { MatchOption result (HasNoCrossing d zones.now) (IsLaterOfPair d zones.now) }
 {
     let mut greatest = 0;
     for zone in zones {

@@ -3,7 +3,7 @@ use Rattle.std.specs.Ordering.{is_lt}
 use Rattle.std.proofs.lemmas.Fn.{always_returns_same}
 use Rattle.std.proofs.lemmas.List.Sorted.{ranks_by}
 use Rattle.stale_model.specs.Zones.{zone_order}
-use Rattle.zones.proofs.ZoneOrder.{zone_order-total}
+use Rattle.stale_model.proofs.ZoneOrders.{zone_order-total}
 use Rattle.zones.proofs.in_zone_order.Goals as goal
 
 pub returns : goal.returns
