@@ -22,12 +22,15 @@ pub record IsGreatestBefore (d : ℕ) (zones : List Cluster) (place greatest : �
   pub reached : (f : ℕ) → f < greatest → IsAbove d zones place f
   pub none : (a b : ℕ) (x y : Cluster) → Crosses d zones a b x y → place ≤ b
 
+-- before the first place there is none
+pub none_before : (d : ℕ) (zones : List Cluster) → IsGreatestBefore d zones 0 0
+none_before d zones = record { bound = λ a x at low. absurd (omega arith); reached = λ f low. absurd (omega arith); none = λ a b x y c. omega arith }
+
 -- the zone at the place crosses an earlier one
 pub crossing_at : (d : ℕ) (zones : List Cluster) (place greatest : ℕ) (zone : Cluster) → IsGreatestBefore d zones place greatest → StandsAt zones place zone
     → zone.f < greatest → IsLaterOfPair d zones zone
 crossing_at d zones place greatest zone g at low =
-    let above = g.reached zone.f low in
-    (
+    let above = g.reached zone.f low in (
       above.i,
       record {
         earlier = above.earlier;

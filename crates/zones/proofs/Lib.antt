@@ -2,3 +2,4 @@ pub mod Conflicts
 pub mod Crossings
 pub mod Greatest
 pub mod Pairs
+pub mod Existence

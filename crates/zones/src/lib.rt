@@ -8,6 +8,9 @@ ghost use Rattle.stale_model.specs.Zones.{last_start, AreInConflict, zone_order,
 ghost use Rattle.stale_model.specs.Clusters.{writes_of, WriteRecordsDiffer};
 ghost use Rattle.zones.specs.Sweeps.{IsLaterOfPair, IsClusterSweep, IsSweep};
 
+mod laws;
+
+pub use laws::{pairs_exist, zone_orders_exist};
 use stale_model::{Cluster, List, Memory};
 use std::alloc::{AllocError, Global};
 use std::cmp::Ordering;
