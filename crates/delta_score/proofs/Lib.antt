@@ -1,5 +1,3 @@
-pub mod Comparisons
-pub mod ClusterBounds
 pub mod Excluded
 pub mod Once
 pub mod Segments
@@ -8,13 +6,12 @@ pub mod Returned
 pub mod Ordered
 pub mod Late
 pub mod ListingOrders
-pub mod SortedPermutation
-pub mod Crossings
-pub mod Theorem
+pub mod Pairs
 pub mod LeastBounds
+pub mod Existence
+pub mod Theorem
 pub mod ListedWrites
 pub mod Placing
 pub mod Finishes
 pub mod Tables
-pub mod Lookup
 pub mod Ranked

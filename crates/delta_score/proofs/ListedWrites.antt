@@ -1,22 +1,22 @@
 -- The write records of a key, and of its clusters.
 use Rattle.std.proofs.Common.{◌≡◌, ℕ, List, map, sym, ◌∙◌, ap}
-use Rattle.std.specs.Prelude.{Contains, option_map}
+use Rattle.std.specs.Prelude.{Contains}
 use Rattle.std.specs.List.{filter}
-use Rattle.std.proofs.lemmas.Option.{get_or_from_slice_get, slice_get-map}
+use Rattle.std.proofs.lemmas.Option.{get_or_from_slice_get}
 use Rattle.std.proofs.lemmas.List.{length-map}
-use Rattle.std.proofs.lemmas.List.Kept.{AllPairs-from_increasing}
-use Rattle.std.proofs.lemmas.List.Sorted.{Contains-permutation, IsPermutation-sym, IsPermutation-map}
-use Rattle.stale_model.specs.Clusters.{writes_of}
+use Rattle.std.proofs.lemmas.List.Sorted.{Contains-permutation, IsPermutation-sym}
 use Rattle.stale_model.specs.declared.Op.{Op}
 use Rattle.stale_model.specs.declared.Cluster.{Cluster}
 use Rattle.stale_model.specs.Operations.{IsWrite, is_write, is_write_kind}
 use Rattle.stale_model.specs.Orders.{StandsAt}
-use Rattle.stale_model.proofs.Places.{contains_at, at_its_place, something_at}
+use Rattle.stale_model.proofs.Places.{contains_at, at_its_place, something_at, stands_mapped}
+use Rattle.stale_model.proofs.Sorted.{permuted_no_repeats}
+use Rattle.stale_model.proofs.ClustersOne.{cluster_writes_differ}
+use Rattle.model_laws.proofs.KindTests.{kind_is_write}
 use Rattle.model_laws.proofs.Listings.{origin, origin_stands, passes_at, keeps}
 use Rattle.delta_score.specs.WriteLists.{write_records}
 use Rattle.delta_score.specs.ZoneLaws.{ClustersListWrites}
-use Rattle.delta_score.proofs.Once.{without_repeats_in_order}
-use Rattle.delta_score.proofs.Segments.{IsWriteWithRecord, is_write_by}
+use Rattle.delta_score.proofs.Segments.{IsWriteWithRecord}
 
 -- x stands in xs, and y is its image
 record HasOrigin {X : Type 0} (f : X → ℕ) (xs : List X) (y : ℕ) : Type 0 where
@@ -28,13 +28,13 @@ record HasOrigin {X : Type 0} (f : X → ℕ) (xs : List X) (y : ℕ) : Type 0 w
 module _ {X : Type 0} (f : X → ℕ) (xs : List X) where
   -- the image of what stands in xs stands among the images
   has_image : (x : X) → Contains xs x → Contains (map f xs) (f x)
-  has_image x c = contains_at (map f xs) c.0 (f x) (slice_get-map f xs c.0 ∙ ap (option_map f) (at_its_place xs x c))
+  has_image x c = contains_at (map f xs) c.0 (f x) (stands_mapped f xs c.0 x (at_its_place xs x c))
 
   -- what stands among the images is an image
   has_origin : (y : ℕ) → Contains (map f xs) y → HasOrigin f xs y
   has_origin y (i, within, is) =
       let (x, at) = something_at xs i (simp length-map at within) in
-      record { place = i; x = x; at = at; image = sym (get_or_from_slice_get (map f xs) i (f x) y (slice_get-map f xs i ∙ ap (option_map f) at)) ∙ is }
+      record { place = i; x = x; at = at; image = sym (get_or_from_slice_get (map f xs) i (f x) y (stands_mapped f xs i x at)) ∙ is }
 
 -- the record of a write is among the write records
 pub write_is_listed : (ops : List Op) (w : Op) → Contains ops w → IsWrite w → Contains (write_records ops) w.rec
@@ -47,7 +47,7 @@ listed_is_write ops rec c =
     record {
       w = o.x;
       there = contains_at ops (origin is_write ops o.place) o.x (origin_stands is_write ops o.place o.x o.at);
-      kind = is_write_by o.x.kind (passes_at is_write ops o.place o.x o.at);
+      kind = kind_is_write o.x.kind (passes_at is_write ops o.place o.x o.at);
       record_is = o.image;
     }
 
@@ -61,6 +61,5 @@ clusters_list_writes ops clusters zones are each = record {
       let w = listed_is_write ops rec c in
       let (zone, member, is) = are.whole w.w w.there w.kind in
       rw (sym w.record_is ∙ is.record_is) (has_image (λ (c : Cluster). c.write) zones zone (Contains-permutation clusters zones zone each member));
-  once = without_repeats_in_order (writes_of clusters) (writes_of zones) (AllPairs-from_increasing (writes_of clusters) are.rising)
-      (IsPermutation-map (λ (c : Cluster). c.write) clusters zones each);
+  once = permuted_no_repeats (λ (c : Cluster). c.write) clusters zones each (cluster_writes_differ ops clusters are);
 }

@@ -1,12 +1,9 @@
 -- The order of operations that a listing gives is an order with k = 2.
 use Rattle.std.proofs.Common.{◌≡◌, ◌⊎◌, ℕ, ◌+◌, ◌<◌, ◌≤◌, true, List, refl, sym, ◌∙◌, ap, subst, inl, inr, arith}
-use Rattle.std.specs.Prelude.{Contains, option_map}
+use Rattle.std.specs.Prelude.{Contains}
 use Rattle.std.specs.declared.cmp.Ordering.TheVariants.{Less}
 use Rattle.std.specs.List.Sorted.{IsPermutation, IsSorted}
 use Rattle.std.proofs.lemmas.Bool.{cases_lt, cases_order}
-use Rattle.std.proofs.lemmas.Option.{slice_get-map}
-use Rattle.std.proofs.lemmas.List.Kept.{AllPairs-from_increasing}
-use Rattle.std.proofs.lemmas.List.Sorted.{IsPermutation-map}
 use Rattle.stale_model.specs.declared.Op.{Op}
 use Rattle.stale_model.specs.declared.KeyOps.{KeyOps}
 use Rattle.stale_model.specs.declared.Cluster.{Cluster}
@@ -23,23 +20,18 @@ use Rattle.stale_model.specs.OperationOrders.{write_place, segment, operation_or
 use Rattle.model_laws.proofs.Named.{matched_keys_name_their_writes}
 use Rattle.model_laws.proofs.OrderPlaces.{reads_or_writes}
 use Rattle.stale_model.proofs.Places.{same_at}
+use Rattle.stale_model.proofs.Sorted.{no_repeats_from_map, permuted_no_repeats}
+use Rattle.stale_model.proofs.ClustersOne.{cluster_writes_differ}
 use Rattle.delta_score.specs.WriteLists.{AreUncrossedWrites, AreListedWrites}
 use Rattle.delta_score.specs.ListingLaws.{ListingsAreOrders}
-use Rattle.delta_score.proofs.ClusterBounds.{finishes_from, reads_start_by}
-use Rattle.delta_score.proofs.Once.{each_once_in_order, without_repeats_in_order}
-use Rattle.delta_score.proofs.Ordered.{starts_before_finish, zone_orders_are_orders}
-use Rattle.delta_score.proofs.Segments.{AreSameClusters, same_in_order, zone_of, one_value}
+use Rattle.model_laws.proofs.Between.{read_start}
+use Rattle.model_laws.proofs.ClustersOne.{valid_records_differ}
+use Rattle.delta_score.proofs.Once.{each_once_in_order}
+use Rattle.delta_score.proofs.Ordered.{FinishFromStart, starts_before_finish, zone_orders_are_orders}
+use Rattle.delta_score.proofs.Segments.{AreSameClusters, same_in_order, zone_of, one_value, finishes_from}
 use Rattle.delta_score.proofs.Late.{late_or_in_time, late_starts_after, in_time_starts_by}
 use Rattle.delta_score.proofs.Returned.{same_place, write_segment_is, one_write, write_between}
 use Rattle.delta_score.proofs.SortedPlaces.{one_counts_between, less_by_segment, write_is_less, earlier_is_less, less_stands_before}
-
--- operations finish from their start on
-abbrev pub FinishFromStart : List Op → Type 0
-FinishFromStart ops = (a : Op) → Contains ops a → earliest_start a ≤ latest_finish a
-
--- the write of a cluster stands where the cluster does
-write_stands : (zones : List Cluster) (i : ℕ) (c : Cluster) → StandsAt zones i c → StandsAt (writes_of zones) i c.write
-write_stands zones i c at = slice_get-map (λ (c : Cluster). c.write) zones i ∙ ap (option_map (λ (c : Cluster). c.write)) at
 
 -- an operation stands in the segment of its own write or in the next one
 record StandsNear (ops : List Op) (d : ℕ) (writes : List ℕ) (a : Op) : Type 0 where
@@ -87,7 +79,7 @@ module _ (ops : List Op) (d : ℕ) (clusters listing : List Cluster) (names : Na
       let place = write_place ops writes in
       let za = zone_of ops clusters listing names are same a ca in
       let zb = zone_of ops clusters listing names are same b cb in
-      let ends = finishes_from ops za.w za.zone za.is a ca za.value_is in
+      let ends = finishes_from ops za.w a za.zone za.is ca za.value_is in
       let one : zb.w ≡ b = names.once b.value zb.w b (record { there = zb.is.there; kind = zb.is.kind; value_is = sym zb.value_is }) (record { there = cb; kind = write; value_is = refl }) in
       let starts : earliest_start b ≡ zb.zone.w = ap earliest_start (sym one) ∙ zb.is.start_is in
       let own = write_segment_is ops d 2 writes b write in
@@ -128,9 +120,9 @@ module _ (ops : List Op) (d : ℕ) (clusters listing : List Cluster) (names : Na
       let place = write_place ops writes in
       let za = zone_of ops clusters listing names are same a ca in
       let zb = zone_of ops clusters listing names are same b cb in
-      let ends = finishes_from ops za.w za.zone za.is a ca za.value_is in
+      let ends = finishes_from ops za.w a za.zone za.is ca za.value_is in
       let starts : earliest_start b ≤ reads_start zb.zone =
-      reads_start_by ops zb.w b zb.zone.s zb.zone.last zb.is.reads (record { read = record { there = cb; kind = read }; value_is = zb.value_is }) in
+      read_start ops zb.w zb.zone.s zb.zone.last b zb.is.reads (record { read = record { there = cb; kind = read }; value_is = zb.value_is }) in
       let begins = finish a ca in
       let near = stands_near ops d writes b in
       let from = near.low in
@@ -236,7 +228,9 @@ module _ (ops : List Op) (d : ℕ) (clusters listing : List Cluster) (names : Na
     is_order = record {
       each_once = each_once;
       extends = λ a b ca cb precedes. less_stands_before ops d 2 (writes_of listing) sorted sorts up a b ca cb (precedes_less a b ca cb precedes);
-      returns = among_last_two;
+      returns = λ r rr.
+          let (w, ww) = names.written r rr.there in
+          (w, ww, among_last_two w r ww rr);
     }
 
 pub listings_are_orders : ListingsAreOrders
@@ -244,7 +238,7 @@ listings_are_orders key d clusters listing order valid clear are is by =
     let names = matched_keys_name_their_writes key valid clear.matched in
     rw by.records
     (is_order (operations key) d clusters listing names clear (λ a there. starts_before_finish key a valid there) are is by.sorted by.each_once by.in_order
-    (each_once_in_order key by.sorted valid by.each_once))
+    (each_once_in_order (λ (a : Op). a.rec) (operations key) by.sorted (valid_records_differ key valid) by.each_once))
 
 -- so listed writes give an order
 pub listed_writes_give_order : (key : KeyOps) (d : ℕ) (writes order : List ℕ) → IsValidKey key → IsClearKey (operations key) → AreListedWrites (operations key) d writes
@@ -258,9 +252,7 @@ uncrossed_are_listed ops d clusters zones are each free = record {
   each_once = record {
     known = (same_in_order clusters zones each).known;
     whole = (same_in_order clusters zones each).whole;
-    once = λ i j c ati atj.
-        without_repeats_in_order (writes_of clusters) (writes_of zones) (AllPairs-from_increasing (writes_of clusters) are.rising) (IsPermutation-map (λ (c : Cluster). c.write) clusters zones each)
-        i j c.write (write_stands zones i c ati) (write_stands zones j c atj);
+    once = no_repeats_from_map (λ (c : Cluster). c.write) zones (permuted_no_repeats (λ (c : Cluster). c.write) clusters zones each (cluster_writes_differ ops clusters are));
   };
   hard = λ a b i j ati atj less. elim (cases_lt j.f i.w) [
     | inl low ↦ absurd (free a b i j (record { first = ati; second = atj; rises = less; crosses = omega arith }))

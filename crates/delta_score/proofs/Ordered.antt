@@ -14,15 +14,16 @@ use Rattle.stale_model.specs.Faults.{IsWriteOf, IsReadIn, IsClearKey}
 use Rattle.stale_model.specs.Clusters.{AreClusters, writes_of}
 use Rattle.stale_model.specs.NamedWrites.{NamesItsWrites}
 use Rattle.stale_model.specs.Precedence.{Precedes}
-use Rattle.stale_model.specs.Orders.{is_write_record, IsAmongLast, IsOrder}
+use Rattle.stale_model.specs.Orders.{is_write_record, IsAmongLast, IsOrder, ListsEachOnce}
 use Rattle.stale_model.specs.OperationOrders.{write_place, segment, operation_order}
 use Rattle.stale_model.specs.Zones.{HasNoCrossing}
 use Rattle.model_laws.proofs.Named.{matched_keys_name_their_writes}
 use Rattle.model_laws.proofs.OrderPlaces.{reads_or_writes}
 use Rattle.delta_score.specs.ZoneLaws.{ZoneOrdersAreOrders}
-use Rattle.delta_score.proofs.ClusterBounds.{finishes_from, finishes_before}
+use Rattle.model_laws.proofs.Between.{starts_by}
+use Rattle.model_laws.proofs.ClustersOne.{valid_records_differ}
 use Rattle.delta_score.proofs.Once.{each_once_in_order}
-use Rattle.delta_score.proofs.Segments.{AreSameClusters, same_in_order, segment_is, zone_of, one_value}
+use Rattle.delta_score.proofs.Segments.{AreSameClusters, same_in_order, segment_is, zone_of, one_value, finishes_from}
 use Rattle.delta_score.proofs.Returned.{same_place, write_between}
 use Rattle.delta_score.proofs.SortedPlaces.{none_counts_between, less_by_segment, write_is_less, earlier_is_less, less_stands_before}
 
@@ -37,34 +38,35 @@ starts_before_finish key a valid (suc i, within, is) =
     let ordered = v.ordered in
     cond_both (a.rec == 0) 0 (max 1 (a.start - a.slack)) (λ n. n ≤ latest_finish a) (λ _. omega arith) (λ _. omega arith)
 
-module _ (key : KeyOps) (d : ℕ) (clusters zones : List Cluster) (valid : IsValidKey key) (clear : IsClearKey (operations key)) (are : AreClusters (operations key) clusters)
-    (each : IsPermutation clusters zones) (free : HasNoCrossing d zones) where
-  names : NamesItsWrites (operations key)
-  names = matched_keys_name_their_writes key valid clear.matched
+-- operations finish from their start on
+abbrev pub FinishFromStart : List Op → Type 0
+FinishFromStart ops = (a : Op) → Contains ops a → earliest_start a ≤ latest_finish a
 
+module _ (ops : List Op) (d : ℕ) (clusters zones : List Cluster) (names : NamesItsWrites ops) (clear : IsClearKey ops) (finish : FinishFromStart ops) (are : AreClusters ops clusters)
+    (each : IsPermutation clusters zones) (free : HasNoCrossing d zones) where
   same : AreSameClusters clusters zones
   same = same_in_order clusters zones each
 
   -- operations of one place have one segment
-  one_segment : (a b : Op) → write_place (operations key) (writes_of zones) a ≡ write_place (operations key) (writes_of zones) b
-      → segment (operations key) d 1 (writes_of zones) a ≡ segment (operations key) d 1 (writes_of zones) b
-  one_segment a b at_one = segment_is (operations key) d (writes_of zones) a ∙ at_one ∙ sym (segment_is (operations key) d (writes_of zones) b)
+  one_segment : (a b : Op) → write_place ops (writes_of zones) a ≡ write_place ops (writes_of zones) b
+      → segment ops d 1 (writes_of zones) a ≡ segment ops d 1 (writes_of zones) b
+  one_segment a b at_one = segment_is ops d (writes_of zones) a ∙ at_one ∙ sym (segment_is ops d (writes_of zones) b)
 
   -- in a cluster, what precedes is less
-  less_in_cluster : (a b : Op) → Contains (operations key) a → Contains (operations key) b → write_place (operations key) (writes_of zones) a ≡ write_place (operations key) (writes_of zones) b
-      → Precedes d a b → operation_order (operations key) d 1 (writes_of zones) a b ≡ Less
+  less_in_cluster : (a b : Op) → Contains ops a → Contains ops b → write_place ops (writes_of zones) a ≡ write_place ops (writes_of zones) b
+      → Precedes d a b → operation_order ops d 1 (writes_of zones) a b ≡ Less
   less_in_cluster a b ca cb at_one precedes =
-      let value = one_value (operations key) clusters zones names are same a b ca cb at_one in
+      let value = one_value ops clusters zones names are same a b ca cb at_one in
       let segments = one_segment a b at_one in
-      let begins = starts_before_finish key a valid ca in
+      let begins = finish a ca in
       elim (reads_or_writes b) [
         | inl read ↦ elim (reads_or_writes a) [
-          | inl reads ↦ earlier_is_less (operations key) d 1 (writes_of zones) a b segments reads read (let low = rw read at precedes in omega arith)
-          | inr write ↦ write_is_less (operations key) d 1 (writes_of zones) a b segments write read
+          | inl reads ↦ earlier_is_less ops d 1 (writes_of zones) a b segments reads read (let low = rw read at precedes in omega arith)
+          | inr write ↦ write_is_less ops d 1 (writes_of zones) a b segments write read
         ]
         | inr write ↦
             let low = rw write at precedes in
-            let of_a : IsWriteOf (operations key) a.value b = record { there = cb; kind = write; value_is = sym value } in
+            let of_a : IsWriteOf ops a.value b = record { there = cb; kind = write; value_is = sym value } in
             elim (reads_or_writes a) [
               | inl read ↦ absurd (clear.no_early a (record { read = record { there = ca; kind = read }; before = (b, of_a, omega arith) }))
               | inr writes ↦
@@ -75,51 +77,55 @@ module _ (key : KeyOps) (d : ℕ) (clusters zones : List Cluster) (valid : IsVal
       ]
 
   -- what precedes is less
-  precedes_less : (a b : Op) → Contains (operations key) a → Contains (operations key) b → Precedes d a b → operation_order (operations key) d 1 (writes_of zones) a b ≡ Less
+  precedes_less : (a b : Op) → Contains ops a → Contains ops b → Precedes d a b → operation_order ops d 1 (writes_of zones) a b ≡ Less
   precedes_less a b ca cb precedes =
-      let place = write_place (operations key) (writes_of zones) in
-      let za = zone_of (operations key) clusters zones names are same a ca in
-      let zb = zone_of (operations key) clusters zones names are same b cb in
-      let low = finishes_from (operations key) za.w za.zone za.is a ca za.value_is in
-      let high = finishes_before (operations key) zb.w zb.zone zb.is names d a b cb zb.value_is precedes in
-      let first = segment_is (operations key) d (writes_of zones) a in
-      let second = segment_is (operations key) d (writes_of zones) b in
+      let place = write_place ops (writes_of zones) in
+      let za = zone_of ops clusters zones names are same a ca in
+      let zb = zone_of ops clusters zones names are same b cb in
+      let low = finishes_from ops za.w a za.zone za.is ca za.value_is in
+      let high = starts_by ops d zb.w b zb.zone names zb.is (record { there = cb; value_is = zb.value_is }) (latest_finish a) precedes in
+      let first = segment_is ops d (writes_of zones) a in
+      let second = segment_is ops d (writes_of zones) b in
       elim (cases_order (place a) (place b)) [
         | inl at_one ↦ less_in_cluster a b ca cb at_one precedes
         | inr apart ↦ elim apart [
-          | inl before ↦ less_by_segment (operations key) d 1 (writes_of zones) a b (omega arith)
+          | inl before ↦ less_by_segment ops d 1 (writes_of zones) a b (omega arith)
           | inr after ↦ absurd (free (place b) (place a) zb.zone za.zone (record { first = zb.at; second = za.at; rises = after; crosses = omega (arith, low, high) }))
         ]
       ]
 
-  module _ (sorted : List Op) (sorts : IsPermutation (operations key) sorted) (up : IsSorted (operation_order (operations key) d 1 (writes_of zones)) sorted) where
+  module _ (sorted : List Op) (sorts : IsPermutation ops sorted) (up : IsSorted (operation_order ops d 1 (writes_of zones)) sorted)
+      (each_once : ListsEachOnce (records_of ops) (records_of sorted)) where
     -- no write stands between a read and its write: it is the last write before the read
-    last_write_before : (w r : Op) → IsWriteOf (operations key) r.value w → IsReadIn (operations key) r → IsAmongLast (operations key) 1 (records_of sorted) w r
+    last_write_before : (w r : Op) → IsWriteOf ops r.value w → IsReadIn ops r → IsAmongLast ops 1 (records_of sorted) w r
     last_write_before w r ww rr =
-        let ops = operations key in
         let writes = writes_of zones in
         let at_one = same_place ops writes w r ww.value_is in
         let own = segment_is ops d writes r in
         let s = less_stands_before ops d 1 writes sorted sorts up w r ww.there rr.there (write_is_less ops d 1 writes w r (one_segment w r at_one) ww.kind rr.kind) in
-        let once = (each_once_in_order key sorted valid sorts).once in
         record {
           before = s;
           few = none_counts_between (is_write_record ops) (records_of sorted) s.place s.later
               (λ l x low high at. false_from_ne_true _
               (λ t.
-              let between = write_between ops d 1 clusters zones names are same sorted sorts up once w r s.place s.later l x ww rr s.first s.second low high at t in
+              let between = write_between ops d 1 clusters zones names are same sorted sorts up each_once.once w r s.place s.later l x ww rr s.first s.second low high at t in
               let after = between.after in
               let within = between.within in
               absurd (omega arith)));
         }
 
-    is_order : IsOrder (operations key) d 1 (records_of sorted)
+    is_order : IsOrder ops d 1 (records_of sorted)
     is_order = record {
-      each_once = each_once_in_order key sorted valid sorts;
-      extends = λ a b ca cb precedes. less_stands_before (operations key) d 1 (writes_of zones) sorted sorts up a b ca cb (precedes_less a b ca cb precedes);
-      returns = last_write_before;
+      each_once = each_once;
+      extends = λ a b ca cb precedes. less_stands_before ops d 1 (writes_of zones) sorted sorts up a b ca cb (precedes_less a b ca cb precedes);
+      returns = λ r rr.
+          let (w, ww) = names.written r rr.there in
+          (w, ww, last_write_before w r ww rr);
     }
 
 pub zone_orders_are_orders : ZoneOrdersAreOrders
 zone_orders_are_orders key d clusters zones order valid clear are each free is =
-    rw is.records (is_order key d clusters zones valid clear are each free is.sorted is.each_once is.in_order)
+    let once = valid_records_differ key valid in
+    rw is.records
+    (is_order (operations key) d clusters zones (matched_keys_name_their_writes key valid clear.matched) clear (λ a there. starts_before_finish key a valid there) are each free is.sorted is.each_once is.in_order
+    (each_once_in_order (λ (a : Op). a.rec) (operations key) is.sorted once is.each_once))

@@ -1,24 +1,22 @@
 -- Where operations stand in a list that is sorted by the operation order.
 use Rattle.std.proofs.Common.{◌≡◌, ℕ, suc, ◌+◌, ◌-◌, ◌<◌, ◌≤◌, Bool, true, false, cond, List, [], ◌∷◌, length, get_or, drop, refl, sym, ◌∙◌, ap, inl, inr, arith}
-use Rattle.std.specs.Prelude.{slice_range, count_by, Contains, not}
-use Rattle.std.specs.Cmp.{IsTotalOrder, bool_cmp_total}
+use Rattle.std.specs.Prelude.{slice_range, count_by, Contains}
 use Rattle.std.specs.declared.cmp.Ordering.TheVariants.{Less}
 use Rattle.std.specs.Ordering.{is_lt}
 use Rattle.std.specs.List.Sorted.{IsPermutation, IsSorted}
 use Rattle.std.proofs.lemmas.Bool.{cases_lt, cases_Bool, both_ways, false_from_ne_true}
-use Rattle.std.proofs.lemmas.Cmp.{nat_cmp_total, on_total, then_total}
 use Rattle.std.proofs.lemmas.Option.{slice_get_within, get_or_from_slice_get}
 use Rattle.std.proofs.lemmas.List.{get_or-take, get_or-drop, length-take, length-drop, length-map}
 use Rattle.std.proofs.lemmas.List.Sums.{sum_by-le, sum_by-cons}
 use Rattle.std.proofs.lemmas.List.Sorted.{Contains-permutation, IsPermutation-sym, sorted_far, ranks_by}
 use Rattle.stale_model.specs.declared.Op.{Op}
-use Rattle.stale_model.specs.Operations.{IsRead, IsWrite, is_write, records_of, earliest_start}
+use Rattle.stale_model.specs.Operations.{IsRead, IsWrite, records_of, earliest_start}
 use Rattle.stale_model.specs.NamedWrites.{RecordsDiffer}
 use Rattle.stale_model.specs.Orders.{StandsAt, StandsBefore}
 use Rattle.stale_model.specs.OperationOrders.{segment, operation_order}
-use Rattle.stale_model.proofs.Places.{at_its_place, something_at, same_at, contains_at}
-use Rattle.delta_score.proofs.Comparisons.{nat_less, nat_same}
-use Rattle.delta_score.proofs.Once.{record_at}
+use Rattle.stale_model.proofs.Places.{at_its_place, something_at, same_at, contains_at, record_stands}
+use Rattle.stale_model.proofs.Comparisons.{nat_less, nat_same}
+use Rattle.model_laws.proofs.One.{operation_order-total}
 
 -- x stands between two places, and at this place of the part between them
 record StandsInPart (xs : List ℕ) (i j k d : ℕ) : Type 0 where
@@ -82,11 +80,6 @@ one_counts_between p xs i j one =
     omega arith
 
 module _ (ops : List Op) (d k : ℕ) (writes : List ℕ) where
-  pub order_total : IsTotalOrder (operation_order ops d k writes)
-  order_total =
-      then_total (then_total (then_total (on_total (segment ops d k writes) nat_cmp_total) (on_total (λ a. not (is_write a)) bool_cmp_total)) (on_total earliest_start nat_cmp_total))
-      (on_total (λ a. a.rec) nat_cmp_total)
-
   -- an operation is less than those of later segments
   pub less_by_segment : (a b : Op) → segment ops d k writes a < segment ops d k writes b → operation_order ops d k writes a b ≡ Less
   less_by_segment a b less = rw (nat_less (segment ops d k writes a) (segment ops d k writes b) less) refl
@@ -104,7 +97,7 @@ module _ (ops : List Op) (d k : ℕ) (writes : List ℕ) where
     -- nothing stands after what is greater
     pub not_less_later : (i j : ℕ) (a b : Op) → StandsAt sorted i a → StandsAt sorted j b → i ≤ j → operation_order ops d k writes b a ≡ Less → ⊥
     not_less_later i j a b ati atj le less =
-        let no = sorted_far (λ x y. is_lt (operation_order ops d k writes x y)) (ranks_by order_total (λ x. x)) sorted up i j a le (slice_get_within sorted j b atj) in
+        let no = sorted_far (λ x y. is_lt (operation_order ops d k writes x y)) (ranks_by (operation_order-total ops d k writes) (λ x. x)) sorted up i j a le (slice_get_within sorted j b atj) in
         let e = get_or_from_slice_get sorted i a a ati in
         let f = get_or_from_slice_get sorted j b a atj in
         both_ways _ (rw (e, f) at no) (ap is_lt less)
@@ -117,7 +110,7 @@ module _ (ops : List Op) (d k : ℕ) (writes : List ℕ) where
         let ati = at_its_place sorted a ma in
         let atj = at_its_place sorted b mb in
         elim (cases_lt ma.0 mb.0) [
-          | inl low ↦ record { place = ma.0; later = mb.0; rises = low; first = record_at sorted ma.0 a ati; second = record_at sorted mb.0 b atj }
+          | inl low ↦ record { place = ma.0; later = mb.0; rises = low; first = record_stands sorted ma.0 a ati; second = record_stands sorted mb.0 b atj }
           | inr high ↦ absurd (not_less_later mb.0 ma.0 b a atj ati high less)
         ]
 
@@ -126,6 +119,6 @@ module _ (ops : List Op) (d k : ℕ) (writes : List ℕ) where
     operation_at differ i rec a there is at =
         let long = slice_get_within (records_of sorted) i rec at in
         let (b, at_b) = something_at sorted i (simp length-map at long) in
-        let same : b.rec ≡ a.rec = same_at (records_of sorted) i b.rec rec (record_at sorted i b at_b) at ∙ sym is in
+        let same : b.rec ≡ a.rec = same_at (records_of sorted) i b.rec rec (record_stands sorted i b at_b) at ∙ sym is in
         let e : b ≡ a = differ b a (Contains-permutation sorted ops b (IsPermutation-sym ops sorted each) (contains_at sorted i b at_b)) there same in
         rw e at at_b

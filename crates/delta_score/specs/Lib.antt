@@ -2,4 +2,5 @@ pub mod WriteLists
 pub mod ZoneLaws
 pub mod ListingLaws
 pub mod Scores
+pub mod ExistenceLaws
 pub mod Ranks

@@ -1,8 +1,8 @@
 -- The least d at which no two clusters are in conflict, and what shows that it is the least.
-use Rattle.std.specs.Prelude.{◌≡◌, ℕ, ◌-◌, ◌<◌, ◌≤◌, List, Option, Some, None}
+use Rattle.std.specs.Prelude.{ℕ, ◌<◌, ◌≤◌, List}
 use Rattle.stale_model.specs.declared.Cluster.{Cluster}
-use Rattle.stale_model.specs.declared.Four.{Four}
-use Rattle.stale_model.specs.Zones.{HasNoConflict, four_of, IsPairOf}
+use Rattle.stale_model.specs.Zones.{HasNoConflict}
+use Rattle.stale_model.specs.PrintedVerdicts.{IsPrintedFour}
 use Rattle.zones.specs.Conflicts.{HasConflict}
 use Rattle.zones.specs.Sweeps.{IsOrderOf}
 use Rattle.delta_score.specs.declared.least.Least.{Least}
@@ -13,23 +13,11 @@ pub record IsLeastWithoutConflict (clusters : List Cluster) (delta : ℕ) : Type
   pub apart : HasNoConflict delta clusters
   pub least : (e : ℕ) → e < delta → HasConflict e clusters
 
--- four has the records of the pair at d
-pub record IsFourOf (d : ℕ) (clusters : List Cluster) (four : Four) : Type 0 where
-  pub i : Cluster
-  pub j : Cluster
-  pub pair : IsPairOf d clusters i j
-  pub four_is : four ≡ four_of d i j
-
--- nothing is less than delta, or these are the four records of the pair at delta - 1
-abbrev pub IsRefuter : List Cluster → ℕ → Option Four → Type 0
-IsRefuter clusters delta None = delta ≡ 0
-IsRefuter clusters delta (Some four) = (0 < delta) × IsFourOf (delta - 1) clusters four
-
--- the least d without conflict, the zone order at it, and the four records of a conflict just below it
+-- the least d without conflict, the zone order at it, and the four records of the pair just below it
 pub record IsLeast (clusters : List Cluster) (least : Least) : Type 0 where
   pub delta : IsLeastWithoutConflict clusters least.delta
   pub order : IsOrderOf least.delta clusters least.order
-  pub refuter : IsRefuter clusters least.delta least.refuter
+  pub refuter : IsPrintedFour clusters least.delta least.refuter
 
 -- the least d without conflict lies between these bounds
 pub record AreBounds (clusters : List Cluster) (bounds : Bounds) : Type 0 where

@@ -1,5 +1,5 @@
 -- The zone theorem (Gibbons and Korach 1997), where reads are taken to start d earlier (Golab, Li and Shah 2011).
-use Rattle.std.specs.Prelude.{ℕ, ◌≢◌, ◌<◌, ◌↔◌, List, Contains}
+use Rattle.std.specs.Prelude.{ℕ, ◌↔◌, List}
 use Rattle.std.specs.List.Sorted.{IsPermutation}
 use Rattle.stale_model.specs.declared.Op.{Op}
 use Rattle.stale_model.specs.declared.KeyOps.{KeyOps}
@@ -9,37 +9,17 @@ use Rattle.stale_model.specs.Valid.{IsValidKey}
 use Rattle.stale_model.specs.Faults.{HasNone, IsEarly, IsMatchedKey, IsClearKey}
 use Rattle.stale_model.specs.Clusters.{writes_of, AreClusters}
 use Rattle.stale_model.specs.NamedWrites.{NamesItsWrites}
-use Rattle.stale_model.specs.Precedence.{Precedes}
 use Rattle.stale_model.specs.Orders.{ListsEachOnce, IsOrder}
 use Rattle.stale_model.specs.LeastDelta.{HasOrder}
-use Rattle.stale_model.specs.Zones.{last_start, AreInConflict, HasNoConflict, IsZoneOrder, HasNoCrossing, IsPair, four_of}
+use Rattle.stale_model.specs.Zones.{HasNoConflict, HasNoCrossing, IsPairOf, four_of}
 use Rattle.stale_model.specs.OperationOrders.{IsOperationOrder}
-use Rattle.stale_model.specs.Refutations.{IsOfCluster}
 use Rattle.stale_model.specs.Shown.{FourHold}
 use Rattle.delta_score.specs.WriteLists.{write_records}
 
--- some operation of the cluster i precedes some operation of the cluster j at d
-pub record SomePrecedes (ops : List Op) (d : ℕ) (i j : Cluster) : Type 0 where
-  pub a : Op
-  pub b : Op
-  pub a_is : IsOfCluster ops i.write a
-  pub b_is : IsOfCluster ops j.write b
-  pub precedes : Precedes d a b
-
--- some operation of a cluster i precedes some operation of a cluster j at d exactly where f of i is less than s of j at d
-abbrev pub ClustersPrecedeByBounds : Type 0
-ClustersPrecedeByBounds = (ops : List Op) (d : ℕ) (clusters : List Cluster) (i j : Cluster) → NamesItsWrites ops → AreClusters ops clusters
-    → Contains clusters i → Contains clusters j → SomePrecedes ops d i j ↔ (i.f < last_start d j)
-
--- the four records of two clusters in conflict at d hold at d
-abbrev pub ConflictsShowFour : Type 0
-ConflictsShowFour = (ops : List Op) (d : ℕ) (clusters : List Cluster) (i j : Cluster) → NamesItsWrites ops → AreClusters ops clusters
-    → Contains clusters i → Contains clusters j → i.write ≢ j.write → AreInConflict d i j → FourHold ops d (four_of d i j)
-
 -- the four records of the pair at d hold at d
 abbrev pub PairsShowFour : Type 0
-PairsShowFour = (ops : List Op) (d : ℕ) (clusters zones : List Cluster) (i j : Cluster) → NamesItsWrites ops → AreClusters ops clusters
-    → IsZoneOrder d clusters zones → IsPair d zones i j → FourHold ops d (four_of d i j)
+PairsShowFour = (ops : List Op) (d : ℕ) (clusters : List Cluster) (i j : Cluster) → NamesItsWrites ops → AreClusters ops clusters
+    → IsPairOf d clusters i j → FourHold ops d (four_of d i j)
 
 -- no read is early, and no two of the clusters conflict at d
 pub record IsConflictFree (ops : List Op) (d : ℕ) (clusters : List Cluster) : Type 0 where
@@ -50,11 +30,6 @@ pub record IsConflictFree (ops : List Op) (d : ℕ) (clusters : List Cluster) : 
 abbrev pub OrdersExcludeConflicts : Type 0
 OrdersExcludeConflicts = (key : KeyOps) (d : ℕ) (clusters : List Cluster) → IsValidKey key → IsMatchedKey (operations key)
     → AreClusters (operations key) clusters → HasOrder (operations key) d 1 → IsConflictFree (operations key) d clusters
-
--- where no two clusters conflict at d, none crosses an earlier one of the zone order
-abbrev pub ZoneOrdersHaveNoCrossing : Type 0
-ZoneOrdersHaveNoCrossing = (ops : List Op) (d : ℕ) (clusters zones : List Cluster) → AreClusters ops clusters → HasNoConflict d clusters
-    → IsZoneOrder d clusters zones → HasNoCrossing d zones
 
 -- where none of the zones crosses an earlier one at d, the operations in the order of the zones are an order with k = 1 at d
 abbrev pub ZoneOrdersAreOrders : Type 0

@@ -1,11 +1,11 @@
-ghost use Rattle.std.specs.Prelude.{◌≡◌, ℕ, ◌+◌, ◌-◌, ◌<◌, ◌≤◌, All, IfOk};
-ghost use Rattle.stale_model.specs.Zones.{HasNoConflict, four_of, last_record, IsFourOfPair};
+ghost use Rattle.std.specs.Prelude.{◌≡◌, ◌-◌, ◌<◌, ◌≤◌, All, IfOk};
+ghost use Rattle.stale_model.specs.Zones.{HasNoConflict, last_record, IsFourOfPair};
 ghost use Rattle.zones.specs.Conflicts.{HasConflict};
 ghost use Rattle.stale_model.specs.Clusters.{WriteRecordsDiffer};
 ghost use Rattle.zones.specs.Sweeps.{IsOrderOf};
 ghost use Rattle.delta_score.specs.Scores.{IsLeastWithoutConflict, IsLeast, AreBounds, IsNarrowed};
 
-use crate::score::{pair_score, reads_start};
+use crate::score::pair_score;
 use stale_model::{Cluster, Four, List, Memory};
 use std::alloc::Global;
 use zones::{Swept, SweptClusters, last_start, sweep, sweep_clusters, writes_of};
@@ -38,7 +38,7 @@ fn greatest_span(clusters: &[Cluster]) -> u64
 {
     let spans = clusters
         .iter()
-        .map(|cluster| reads_start(cluster).saturating_sub(cluster.f));
+        .map(|cluster| cluster.reads_start().saturating_sub(cluster.f));
     spans.max().unwrap_or(0)
 }
 
@@ -108,7 +108,7 @@ fn last_record(d: u64, cluster: &Cluster) -> u32
 fn four_at(alloc: Global, d: u64, clusters: &[Cluster]) -> Result<Four, Memory>
     requires differ { WriteRecordsDiffer clusters.now }
     requires conflict { HasConflict d clusters.now }
-    ensures { IfOk result (IsFourOfPair d clusters.now) }
+    ensures { IfOk result (IsFourOfPair clusters.now d) }
 {
     match sweep_clusters(alloc, d, clusters)? {
         SweptClusters::Order(_) => unreachable!(),

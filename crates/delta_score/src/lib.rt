@@ -3,20 +3,21 @@
 //! Korach 1997).
 #![tactic(auto)]
 
+mod existence_laws;
 mod least;
 mod listing_laws;
 mod order;
 mod score;
 mod zone_laws;
 
+pub use existence_laws::{least_deltas_exist, operation_orders_exist};
 pub use least::{Least, least_delta};
 pub use listing_laws::listings_are_orders;
 pub use order::op_order;
 pub use score::pair_score;
 pub use zone_laws::{
-    clusters_list_writes, clusters_precede_by_bounds, conflicts_show_four,
-    orders_exclude_conflicts, pairs_show_four, zone_orders_are_orders,
-    zone_orders_have_no_crossing, zone_theorem,
+    clusters_list_writes, orders_exclude_conflicts, pairs_show_four, zone_orders_are_orders,
+    zone_theorem,
 };
 
 #[cfg(test)]

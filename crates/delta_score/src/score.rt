@@ -1,14 +1,7 @@
-ghost use Rattle.std.specs.Prelude.{◌≡◌, ℕ, ◌<◌, ◌≤◌, ◌↔◌};
-ghost use Rattle.stale_model.specs.Zones.{reads_start, AreInConflict};
+ghost use Rattle.std.specs.Prelude.{ℕ, ◌<◌, ◌≤◌, ◌↔◌};
+ghost use Rattle.stale_model.specs.Zones.{AreInConflict};
 
 use stale_model::Cluster;
-
-/// The greatest earliest start of a cluster's reads; 0 where it has none.
-pub(crate) fn reads_start(cluster: &Cluster) -> u64
-    ensures { result ≡ reads_start cluster.now }
-{
-    cluster.s.unwrap_or(0)
-}
 
 /// The score of two clusters, in each of which the write starts no later than the first operation
 /// finishes: the least d, in ticks, at which they are not in conflict (Golab, Li and Shah 2011).
@@ -17,8 +10,8 @@ pub fn pair_score(a: &Cluster, b: &Cluster) -> u64
     requires b_starts { b.now.w ≤ b.now.f }
     ensures { (d : ℕ) → AreInConflict d a.now b.now ↔ (d < result) }
 {
-    let there = reads_start(b).saturating_sub(a.f);
-    let back = reads_start(a).saturating_sub(b.f);
+    let there = b.reads_start().saturating_sub(a.f);
+    let back = a.reads_start().saturating_sub(b.f);
     if a.f < b.w {
         back
     } else if b.f < a.w {

@@ -1,18 +1,7 @@
 //! The zone theorem (Gibbons and Korach 1997) in both directions, and the laws that it rests on, as functions whose
 //! contracts are all that they are for.
 
-ghost use Rattle.delta_score.specs.ZoneLaws.{ClustersPrecedeByBounds, ConflictsShowFour, PairsShowFour, OrdersExcludeConflicts, ZoneOrdersHaveNoCrossing, ZoneOrdersAreOrders, ClustersListWrites, ZoneTheorem};
-
-/// Some operation of a cluster i precedes some operation of a cluster j at d exactly where f of i is less than s of j
-/// at d.
-pub fn clusters_precede_by_bounds()
-    ensures { ClustersPrecedeByBounds }
-{}
-
-/// The four records of two clusters in conflict at d hold at d.
-pub fn conflicts_show_four()
-    ensures { ConflictsShowFour }
-{}
+ghost use Rattle.delta_score.specs.ZoneLaws.{PairsShowFour, OrdersExcludeConflicts, ZoneOrdersAreOrders, ClustersListWrites, ZoneTheorem};
 
 /// The four records of the pair of the zone order at d hold at d.
 pub fn pairs_show_four()
@@ -23,11 +12,6 @@ pub fn pairs_show_four()
 /// conflict at d.
 pub fn orders_exclude_conflicts()
     ensures { OrdersExcludeConflicts }
-{}
-
-/// Where no two clusters conflict at d, no operation of a cluster precedes one of an earlier cluster of the zone order.
-pub fn zone_orders_have_no_crossing()
-    ensures { ZoneOrdersHaveNoCrossing }
 {}
 
 /// Where no operation of a cluster precedes one of an earlier cluster at d, the operations in the order of the clusters

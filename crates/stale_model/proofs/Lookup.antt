@@ -1,23 +1,24 @@
 -- The value of a record, found by halving.
-use Rattle.std.proofs.Common.{◌≡◌, ℕ, zero, suc, ◌+◌, ◌<◌, ◌≤◌, List, length, get_or, sym, ◌∙◌, ap, inl, inr, arith}
-use Rattle.std.specs.Prelude.{◌≢◌, ◌==◌, Option, slice_get}
-use Rattle.std.specs.List.{HoldsAt}
+use Rattle.std.proofs.Common.{◌≡◌, ℕ, zero, suc, ◌+◌, ◌<◌, ◌≤◌, List, length, get_or, refl, sym, ◌∙◌, ap, inl, inr, arith}
+use Rattle.std.specs.Prelude.{◌≢◌, ◌==◌, Option, slice_get, Contains}
+use Rattle.std.specs.List.{HoldsAt, position_or_len}
 use Rattle.std.specs.List.Sorted.{IsNonDecreasingBy, IsPartitionPoint}
 use Rattle.std.specs.Option.{option_map_or}
 use Rattle.std.specs.declared.cmp.Ordering.TheVariants.{Less, Equal, Greater}
 use Rattle.std.specs.Ordering.{nat_cmp, ordering_index}
-use Rattle.std.proofs.lemmas.Bool.{cases_eq, cases_lt, ne_eqb, eq-eqb}
+use Rattle.std.proofs.lemmas.Bool.{cases_eq, cases_lt, both_ways, ne_eqb, eq-eqb, eqb-true}
 use Rattle.std.proofs.lemmas.Cmp.{nat_cmp_total}
 use Rattle.std.proofs.lemmas.List.{get_or-map, length-map}
 use Rattle.std.proofs.lemmas.List.Elements.{All-contains, Contains-get_or}
 use Rattle.std.proofs.lemmas.List.Folds.{find_at}
 use Rattle.std.proofs.lemmas.List.Sorted.{searchable_from_sorted}
-use Rattle.std.proofs.lemmas.List.Sums.{position_or_len_is}
+use Rattle.std.proofs.lemmas.List.Sums.{position_or_len_is, fails_before_first, passes_at_first}
 use Rattle.std.proofs.lemmas.Option.{slice_get-get_or, slice_get_past}
 use Rattle.stale_model.specs.declared.Op.{Op}
 use Rattle.stale_model.specs.declared.KeyOps.{KeyOps}
 use Rattle.stale_model.specs.Operations.{operations, records_of, value_of_record}
 use Rattle.stale_model.specs.Valid.{IsValidOp, IsValidKey}
+use Rattle.stale_model.specs.NamedWrites.{RecordsDiffer}
 use Rattle.stale_model.proofs.Comparisons.{same_nat, nat_same, not_less}
 use Rattle.stale_model.proofs.Sorted.{rises_from}
 
@@ -30,6 +31,19 @@ first_value ops rec place past within none here =
     (find_at passes ops
     ∙ ap (slice_get ops)
     (position_or_len_is passes ops place past within (λ k low. ne_eqb (get_or ops k past).rec rec (none k low)) (λ short. eq-eqb (get_or ops place past).rec rec (here short))))
+
+-- where no two operations have one record, the value of a record is that of its operation
+pub value_of_record_is : (ops : List Op) (a : Op) → RecordsDiffer ops → Contains ops a → value_of_record ops a.rec ≡ a.value
+value_of_record_is ops a differ (i, within, e) =
+    let passes = λ (x : Op). x.rec == a.rec in
+    let place = position_or_len passes ops in
+    let short : place < length ops = elim (cases_lt i place) [
+      | inl before ↦ let fails = fails_before_first passes ops i a before in absurd (both_ways _ fails (rw e (eq-eqb a.rec a.rec refl)))
+      | inr after ↦ omega arith
+    ] in
+    let first = get_or ops place a in
+    let same = differ first a (Contains-get_or ops place a short) (i, within, e) (eqb-true first.rec a.rec (passes_at_first passes ops a short)) in
+    ap (λ (o : Option Op). option_map_or (λ (x : Op). x.value) o 0) (find_at passes ops ∙ slice_get-get_or ops place a short) ∙ ap (λ (x : Op). x.value) same
 
 module _ (key : KeyOps) (rec : ℕ) (valid : IsValidKey key) where
   numbered : (k : ℕ) (past : Op) → k < length key.ops → 1 ≤ (get_or key.ops k past).rec

@@ -1,4 +1,4 @@
-use Rattle.delta_score.proofs.Crossings.{pairs_show_four}
+use Rattle.delta_score.proofs.Pairs.{pairs_show_four}
 use Rattle.delta_score.proofs.zone_laws.pairs_show_four.Goals as goal
 
 pub returns : goal.returns
