@@ -10,7 +10,7 @@ use Rattle.stale_model.specs.declared.Cluster.{Cluster}
 use Rattle.stale_model.specs.Faults.{IsDuplicate, IsUnmatched, IsEarly, IsLeastRecord, HasNone}
 use Rattle.stale_model.specs.Clusters.{IsLeastFinish, IsGreatestStart, AreReadsOf, IsClusterOf, AreClusters}
 use Rattle.clusters.specs.declared.Sorted.TheVariants.{Duplicate, Unmatched, Early, Clear}
-use Rattle.clusters.specs.Laws.{ClustersAreOne, SortingsAreOne}
+use Rattle.clusters.specs.Laws.{SortingsAreOne}
 use Rattle.clusters.proofs.Ordering.{Contains-later, Contains-cases}
 
 -- two least records of a fault are one
@@ -115,7 +115,7 @@ same_lists (x ∷ xs) (y ∷ ys) p q to back =
     let f = same_lists xs ys (rising_rest x xs p) (rising_rest y ys q) (shared_rest x y xs ys e p to) (shared_rest y x ys xs (sym e) q back) in
     cc
 
-pub clusters_are_one : ClustersAreOne
+pub clusters_are_one : (ops : List Op) (xs ys : List Cluster) → AreClusters ops xs → AreClusters ops ys → xs ≡ ys
 clusters_are_one ops xs ys p q = same_lists xs ys (rising_from xs p.rising) (rising_from ys q.rising) (shared ops xs ys p q) (shared ops ys xs q p)
   where
     shared : (ops : List Op) (xs ys : List Cluster) → AreClusters ops xs → AreClusters ops ys → (c : Cluster) → Contains xs c → Contains ys c
