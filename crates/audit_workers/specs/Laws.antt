@@ -4,19 +4,18 @@ use Rattle.stale_model.specs.declared.Op.{Op}
 use Rattle.stale_model.specs.declared.KeyOps.{KeyOps}
 use Rattle.stale_model.specs.declared.Cluster.{Cluster}
 use Rattle.stale_model.specs.declared.Two.{Two}
-use Rattle.stale_model.specs.declared.Two.TheVariants.{Yes}
 use Rattle.stale_model.specs.declared.Verdict.{Verdict}
 use Rattle.stale_model.specs.declared.Verdict.TheVariants.{Infinite}
 use Rattle.stale_model.specs.Operations.{operations}
 use Rattle.stale_model.specs.Valid.{IsValidKey}
-use Rattle.stale_model.specs.Faults.{IsEarly, HasNone, IsMatchedKey}
+use Rattle.stale_model.specs.Faults.{IsEarly, HasNone, IsMatchedKey, IsClearKey}
 use Rattle.stale_model.specs.LeastDelta.{HasOrder, HasNoDelta}
 use Rattle.stale_model.specs.Clusters.{AreClusters}
-use Rattle.stale_model.specs.Listings.{IsListing}
 use Rattle.stale_model.specs.Chains.{IsAnswer}
 use Rattle.stale_model.specs.Truth.{IsTrueOf}
 use Rattle.stale_model.specs.Shown.{IsShown}
 use Rattle.stale_model.specs.PrintedVerdicts.{IsPrintedVerdict, ArePrintedVerdicts}
+use Rattle.lbt_epochs.specs.TwoLaws.{HasListing, IsYes}
 
 -- each valid key has a verdict that is printed
 abbrev pub VerdictExists : Type 0
@@ -43,17 +42,15 @@ abbrev pub InfiniteIsExact : Type 0
 InfiniteIsExact = (ops : List Op) (verdict : Verdict) → IsMatchedKey ops → IsTrueOf ops verdict → ((rec : ℕ) × (verdict ≡ Infinite rec)) ↔ HasNoDelta ops 1
 
 -- no read is early, and some listing of the clusters at d is there
-pub record CanBeListed (key : KeyOps) (d : ℕ) (clusters : List Cluster) : Type 0 where
-  pub no_early : HasNone (IsEarly (operations key))
-  pub listing : List Cluster
-  pub is : IsListing d clusters listing
+abbrev pub CanBeListed : List Op → ℕ → List Cluster → Type 0
+CanBeListed ops d clusters = HasNone (IsEarly ops) × HasListing d clusters
 
 -- there is an order with k = 2 at d exactly where no read is early and some listing at d is there
 abbrev pub TwoTheorem : Type 0
 TwoTheorem = (key : KeyOps) (d : ℕ) (clusters : List Cluster) → IsValidKey key → IsMatchedKey (operations key) → AreClusters (operations key) clusters
-    → HasOrder (operations key) d 2 ↔ CanBeListed key d clusters
+    → HasOrder (operations key) d 2 ↔ CanBeListed (operations key) d clusters
 
 -- yes is answered for the clusters of a key without early reads exactly where there is an order with k = 2 at d
 abbrev pub YesIsExact : Type 0
-YesIsExact = (key : KeyOps) (d : ℕ) (clusters : List Cluster) (two : Two) → IsValidKey key → IsMatchedKey (operations key) → HasNone (IsEarly (operations key))
-    → AreClusters (operations key) clusters → IsAnswer d clusters two → ((writes : List ℕ) × (two ≡ Yes writes)) ↔ HasOrder (operations key) d 2
+YesIsExact = (key : KeyOps) (d : ℕ) (clusters : List Cluster) (two : Two) → IsValidKey key → IsClearKey (operations key)
+    → AreClusters (operations key) clusters → IsAnswer d clusters two → IsYes two ↔ HasOrder (operations key) d 2

@@ -6,4 +6,4 @@ pub mod Scanning
 pub mod Ordering
 pub mod Unique
 pub mod Choosing
-pub mod Existing
+pub mod Existence

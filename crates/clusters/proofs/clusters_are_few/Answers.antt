@@ -1,4 +1,4 @@
-use Rattle.clusters.proofs.Existing.{clusters_are_few}
+use Rattle.clusters.proofs.Existence.{clusters_are_few}
 use Rattle.clusters.proofs.clusters_are_few.Goals as goal
 
 pub returns : goal.returns

@@ -1,4 +1,4 @@
-use Rattle.clusters.proofs.Existing.{sortings_exist}
+use Rattle.clusters.proofs.Existence.{sortings_exist}
 use Rattle.clusters.proofs.sortings_exist.Goals as goal
 
 pub returns : goal.returns
