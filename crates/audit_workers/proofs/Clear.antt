@@ -56,10 +56,6 @@ module _ (ops : List Op) (clusters : List Cluster) (are : AreClusters ops cluste
   pub writes_listed : (d : ℕ) (order : List ℕ) → IsOrderOf d clusters order → ListsEachOnce (write_records ops) order
   writes_listed d order is = rw is.writes (clusters_list_writes ops clusters is.zones are is.zone_order.each_once)
 
-  four_printed : (delta : ℕ) (four : Option Four) → IsPrintedFour clusters delta four → IsPrintedFour clusters delta four
-  four_printed delta None none = none
-  four_printed delta (Some four) (above, is) = (above, record { zones = is.pair.zones; zone_order = is.pair.zone_order; i = is.i; j = is.j; pair = is.pair.pair; four_is = is.four_is })
-
   -- the least delta, the order of operations at it and the part on 2-atomicity are the judgement
   pub judged : IsClearKey ops → (least : Least) (order : List ℕ) (two : TwoPart) → IsLeast clusters least → IsOperationOrder ops least.delta 1 least.order order
       → IsPrintedTwo ops clusters two → IsPrintedJudgement ops (record { delta = least.delta; order = order; four = least.refuter; two = two })
@@ -69,6 +65,6 @@ module _ (ops : List Op) (clusters : List Cluster) (are : AreClusters ops cluste
     are = are;
     no_conflict = is.delta.apart;
     order = record { zones = is.order.zones; zone_order = is.order.zone_order; operation_order = subst (λ (writes : List ℕ). IsOperationOrder ops least.delta 1 writes order) is.order.writes in_order };
-    four = four_printed least.delta least.refuter is.refuter;
+    four = is.refuter;
     two = is_two;
   }

@@ -3,3 +3,4 @@ pub mod Truth
 pub mod One
 pub mod Clear
 pub mod Listed
+pub mod Theorem

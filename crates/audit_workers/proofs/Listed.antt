@@ -1,4 +1,4 @@
--- What is said of 2-atomicity is true.
+-- What is answered for the clusters lists each write once.
 use Rattle.std.proofs.Common.{◌≡◌, ℕ, List, sym, ◌∙◌, arith}
 use Rattle.std.proofs.lemmas.List.Sorted.{IsPermutation-refl}
 use Rattle.stale_model.specs.declared.Op.{Op}
@@ -26,18 +26,6 @@ use Rattle.lbt_epochs.proofs.ListedEpochs.{listings_are_answered}
 use Rattle.lbt_epochs.proofs.RefutedAnswers.{refutations_are_answered}
 use Rattle.lbt_epochs.proofs.RefutedClusters.{cluster_at_write, member_of_write}
 use Rattle.lbt_epochs.proofs.ListedParts.{write_there}
-
-pub two_holds : (key : KeyOps) (clusters : List Cluster) (two : TwoPart) → IsValidKey key → IsClearKey (operations key) → AreClusters (operations key) clusters
-    → IsPrintedTwo (operations key) clusters two → TwoHolds (operations key) two
-two_holds key clusters (Yes order) valid clear are printed =
-    let ops = operations key in
-    let listed = listings_are_answered 0 clusters printed.writes (cluster_writes_differ ops clusters are) printed.answer in
-    listings_are_orders key 0 clusters listed.listing order valid clear are listed.is (rw listed.writes_are printed.operation_order)
-two_holds key clusters (No refutation) valid clear are printed =
-    let ops = operations key in
-    let names = matched_keys_name_their_writes key valid clear.matched in
-    let holds = refutations_are_answered ops 0 clusters refutation names are printed in
-    (refutations_exclude_orders ops 0 0 refutation names holds (omega arith), holds)
 
 -- a listing of the clusters lists each write once
 pub listing_lists_writes : (ops : List Op) (clusters listing : List Cluster) → AreClusters ops clusters → ListsEachOnce clusters listing

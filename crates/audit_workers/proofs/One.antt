@@ -13,10 +13,11 @@ use Rattle.stale_model.specs.PrintedVerdicts.{IsPrintedOrder, IsPrintedTwo, AreP
 use Rattle.stale_model.specs.Zones.{IsFourOfPair}
 use Rattle.model_laws.proofs.Named.{matched_keys_name_their_writes}
 use Rattle.model_laws.proofs.One.{least_deltas_are_one, printed_orders_are_one, printed_fours_are_one, printed_twos_are_one}
-use Rattle.model_laws.proofs.ClustersOne.{clusters_are_one, cluster_writes_differ, valid_records_differ}
+use Rattle.stale_model.proofs.ClustersOne.{clusters_are_one, cluster_writes_differ}
+use Rattle.model_laws.proofs.ClustersOne.{valid_records_differ}
 use Rattle.clusters.proofs.Unique.{same_record, not_none}
 use Rattle.audit_workers.specs.Laws.{VerdictIsOne, VerdictsAreOne}
-use Rattle.audit_workers.proofs.Truth.{judgement_is_true}
+use Rattle.audit_workers.proofs.Truth.{verdicts_are_true}
 
 -- the records that are printed for one delta are one
 four_is_one : (clusters : List Cluster) (delta : ℕ) (x y : Option Four) → ((d : ℕ) (four other : Four) → IsFourOfPair clusters d four → IsFourOfPair clusters d other → four ≡ other) → IsPrintedFour clusters delta x → IsPrintedFour clusters delta y → x ≡ y
@@ -32,9 +33,8 @@ same_judgement x y p q r s = λ i. record { delta = p i; order = q i; four = r i
 judgement_is_one : (key : KeyOps) (x y : Judgement) → IsValidKey key → IsPrintedJudgement (operations key) x → IsPrintedJudgement (operations key) y → x ≡ y
 judgement_is_one key x y valid p q =
     let ops = operations key in
-    let names = matched_keys_name_their_writes key valid p.clear.matched in
-    let delta = least_deltas_are_one ops 1 x.delta y.delta (judgement_is_true key x valid p).least (judgement_is_true key y valid q).least in
-    let clusters = clusters_are_one ops q.clusters p.clusters names q.are p.are in
+    let delta = least_deltas_are_one ops 1 x.delta y.delta (verdicts_are_true key (Judged x) valid p).least (verdicts_are_true key (Judged y) valid q).least in
+    let clusters = clusters_are_one ops q.clusters p.clusters q.are p.are in
     let differ = cluster_writes_differ ops p.clusters p.are in
     let order = subst (λ (d : ℕ). IsPrintedOrder ops p.clusters d y.order) (sym delta) (subst (λ (cs : List Cluster). IsPrintedOrder ops cs y.delta y.order) clusters q.order) in
     let four = subst (λ (d : ℕ). IsPrintedFour p.clusters d y.four) (sym delta) (subst (λ (cs : List Cluster). IsPrintedFour cs y.delta y.four) clusters q.four) in

@@ -8,7 +8,8 @@ ghost use Rattle.stale_model.specs.Faults.{IsClearKey};
 ghost use Rattle.stale_model.specs.Clusters.{AreClusters};
 ghost use Rattle.stale_model.specs.PrintedVerdicts.{IsPrintedTwo, IsPrintedVerdict, ArePrintedVerdicts, IsPrintedJudgement};
 ghost use Rattle.stale_model.specs.Truth.{EachKeyHas, IsTrueOf};
-ghost use Rattle.audit_workers.specs.Laws.{VerdictsAreTrue, VerdictIsOne, VerdictsAreOne};
+ghost use Rattle.stale_model.specs.Shown.{IsShown};
+ghost use Rattle.audit_workers.specs.Laws.{VerdictExists, VerdictIsOne, VerdictsAreOne, VerdictsAreShown, VerdictsAreTrue, InfiniteIsExact, TwoTheorem, YesIsExact};
 
 use audit_ports::Gate;
 use clusters::{Sorted, sort_key};
@@ -72,8 +73,9 @@ fn verdict_of(alloc: Global, key: &KeyOps) -> Result<Verdict, Memory>
 /// The error says that memory ran out.
 pub fn judge_key(alloc: Global, key: &KeyOps) -> Result<Verdict, Memory>
     requires { IsValidKey key.now }
-    ensures verdict { IfOk result (IsPrintedVerdict (operations key.now)) }
     ensures truth { IfOk result (IsTrueOf (operations key.now)) }
+    ensures shown { IfOk result (IsShown (operations key.now)) }
+    ensures printed { IfOk result (IsPrintedVerdict (operations key.now)) }
 {
     verdict_of(alloc, key)
 }
@@ -98,33 +100,60 @@ fn judge_each<G: Gate>(alloc: Global, history: &History, gate: &G) -> Result<Lis
 /// of workers from 1 to 64. Before a key is judged the gate is entered with the key's place, counted
 /// from 0, and after that it is left. The error says that memory ran out.
 pub fn judge_all<R: Threads + Sync, G: Gate>(
-    _rt: &R,
+    rt: &R,
     alloc: Global,
     history: &History,
-    _workers: u32,
+    workers: u32,
     gate: &G,
 ) -> Result<List<Verdict>, Memory>
     requires valid { IsValidHistory history.now }
-    requires some_worker { 1 ≤ _workers }
-    requires few_workers { _workers ≤ 64 }
-    ensures verdicts { IfOk result (ArePrintedVerdicts history.now.keys) }
+    requires some_worker { 1 ≤ workers }
+    requires few_workers { workers ≤ 64 }
     ensures truth { IfOk result (EachKeyHas IsTrueOf history.now.keys) }
+    ensures shown { IfOk result (EachKeyHas IsShown history.now.keys) }
+    ensures printed { IfOk result (ArePrintedVerdicts history.now.keys) }
 {
+    let _ = (rt, workers);
     judge_each(alloc, history, gate)
 }
 
-/// The verdict that is printed of a valid key is true, and infinite is said of a key that is neither
-/// duplicate nor unmatched exactly where no d has an order.
-pub fn verdicts_are_true()
-    ensures { VerdictsAreTrue }
+/// Each valid key has a verdict that is printed.
+pub fn verdict_exists()
+    ensures { VerdictExists }
 {}
 
-/// The verdict of the same operations is one.
+/// The verdict that is printed of the same operations is one.
 pub fn verdict_is_one()
     ensures { VerdictIsOne }
 {}
 
-/// The verdicts of the same keys are one list.
+/// The verdicts that are printed of the same keys are one list.
 pub fn verdicts_are_one()
     ensures { VerdictsAreOne }
+{}
+
+/// The verdict that is printed of a valid key is shown by its orders and records.
+pub fn verdicts_are_shown()
+    ensures { VerdictsAreShown }
+{}
+
+/// The verdict that is printed of a valid key is true.
+pub fn verdicts_are_true()
+    ensures { VerdictsAreTrue }
+{}
+
+/// `Infinite` is true of a key that is neither duplicate nor unmatched exactly where no d has an order.
+pub fn infinite_is_exact()
+    ensures { InfiniteIsExact }
+{}
+
+/// The theorem on 2-atomicity: there is an order in which each read returns one of the last two writes exactly where
+/// no read is early and the clusters have a listing (after Golab, Hurwitz and Li 2013).
+pub fn two_theorem()
+    ensures { TwoTheorem }
+{}
+
+/// [`two_atomic_at`](lbt_epochs::two_atomic_at) answers yes exactly where there is such an order.
+pub fn yes_is_exact()
+    ensures { YesIsExact }
 {}

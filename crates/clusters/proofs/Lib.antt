@@ -5,3 +5,5 @@ pub mod Gathering
 pub mod Scanning
 pub mod Ordering
 pub mod Unique
+pub mod Choosing
+pub mod Existence

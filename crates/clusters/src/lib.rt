@@ -1,18 +1,18 @@
 //! Sorts the operations of a key into clusters, or names the fault of the key.
 #![tactic(auto)]
 
-ghost use Rattle.std.specs.Prelude.{◌≡◌, ℕ, ◌+◌, ◌^◌, ◌<◌, List, [], ◌∷◌, ◌++◌, length, IfOk, MatchOption};
+ghost use Rattle.std.specs.Prelude.{◌≡◌, ◌+◌, ◌^◌, ◌<◌, List, [], ◌∷◌, ◌++◌, length, IfOk, MatchOption};
 ghost use Rattle.std.specs.List.{filter_map};
 ghost use Rattle.stale_model.specs.Valid.{IsValidKey};
-ghost use Rattle.stale_model.specs.Operations.{initial_write, operations, earliest_start, latest_finish};
+ghost use Rattle.stale_model.specs.Operations.{initial_write, operations, latest_finish};
 ghost use Rattle.stale_model.specs.Faults.{IsLeastRecord, HasNone, IsUnmatched, IsEarly};
 ghost use Rattle.stale_model.specs.Clusters.{IsLeastFinish, AreReadsOf, IsClusterOf, AreClusters};
 ghost use Rattle.clusters.specs.Tables.{lone_cluster, IsTable, IsLone, AreWrites, IsWriteTable, IsClusterTable, cluster_in};
 ghost use Rattle.clusters.specs.Sorting.{IsSorting};
-ghost use Rattle.clusters.specs.Laws.{ClustersAreOne, SortingsAreOne};
+ghost use Rattle.clusters.specs.Laws.{SortingsAreOne, SortingsExist, ClustersAreFew};
 
 pub use stale_model::Cluster;
-use stale_model::{KeyOps, Kind, List, Memory, Op};
+use stale_model::{INITIAL_WRITE, KeyOps, Kind, List, Memory, Op};
 use std::alloc::{AllocError, Global};
 use std::cmp::Ordering;
 use std::iter;
@@ -54,63 +54,37 @@ pub fn sort_key(alloc: Global, key: &KeyOps) -> Result<Sorted, Memory>
     }
 }
 
-/// The least tick at which an operation may have started: 0 for the initial write, at least 1 for
-/// any other.
-pub fn earliest_start(op: &Op) -> u64
-    ensures { result ≡ earliest_start op.now }
-{
-    if op.rec == 0 {
-        0
-    } else {
-        op.start.saturating_sub(op.slack).max(1)
-    }
-}
-
-/// The greatest tick at which an operation may have finished.
-pub fn latest_finish(op: &Op) -> u64
-    requires { latest_finish op.now < 2 ^ 64 }
-    ensures { result ≡ latest_finish op.now }
-{
-    op.finish + op.slack
-}
-
-/// The clusters of the same operations are one list.
-pub fn clusters_are_one()
-    ensures { ClustersAreOne }
-{}
-
 /// The same operations are sorted in one way.
 pub fn sortings_are_one()
     ensures { SortingsAreOne }
 {}
 
-/// The write of "absent" that stands before all operations of a key: record 0, tick 0, value 0.
-pub const INITIAL_WRITE: Op = Op {
-    rec: 0,
-    client: 0,
-    kind: Kind::Write,
-    value: 0,
-    start: 0,
-    finish: 0,
-    slack: 0,
-};
+/// The operations of a valid key are sorted in some way.
+pub fn sortings_exist()
+    ensures { SortingsExist }
+{}
 
-/// The cluster of a write without reads.
+/// A valid key has fewer than 2^32 clusters.
+pub fn clusters_are_few()
+    ensures { ClustersAreFew }
+{}
+
+// The cluster of a write without reads.
 fn lone_cluster(write: &Op) -> Cluster
     requires { latest_finish write.now < 2 ^ 64 }
     ensures { result ≡ lone_cluster write.now }
 {
     Cluster {
         write: write.rec,
-        f: latest_finish(write),
-        w: earliest_start(write),
+        f: write.latest_finish(),
+        w: write.earliest_start(),
         s: None,
         first: write.rec,
         last: write.rec,
     }
 }
 
-/// A table of the writes of a key, or why there is none.
+// A table of the writes of a key, or why there is none.
 #[derive(Drop)]
 enum Writes {
     /// The record is the least one whose value a lesser record wrote.
@@ -119,7 +93,7 @@ enum Writes {
     Table(Vec<Option<Cluster>>),
 }
 
-/// A slot for each value of a key, with the initial write in its own, and nothing in the others.
+// A slot for each value of a key, with the initial write in its own, and nothing in the others.
 fn initial_table(alloc: Global, key: &KeyOps) -> Result<Vec<Option<Cluster>>, Memory>
     ensures { IfOk result
         (λ table. IsTable IsLone (initial_write ∷ []) (length key.now.values) table.items) }
@@ -130,7 +104,7 @@ fn initial_table(alloc: Global, key: &KeyOps) -> Result<Vec<Option<Cluster>>, Me
     Ok(table)
 }
 
-/// The writes of a key, each in the slot of its value, or the first one whose slot is full.
+// The writes of a key, each in the slot of its value, or the first one whose slot is full.
 fn writes_of(alloc: Global, key: &KeyOps) -> Result<Writes, Memory>
     requires { IsValidKey key.now }
     ensures { IfOk result (AreWrites key.now) }
@@ -147,15 +121,15 @@ fn writes_of(alloc: Global, key: &KeyOps) -> Result<Writes, Memory>
     Ok(Writes::Table(table))
 }
 
-/// The least latest finish of a cluster and one more operation of its value, and the least record
-/// with it.
+// The least latest finish of a cluster and one more operation of its value, and the least record
+// with it.
 fn least_finish(cluster: &Cluster, op: &Op) -> (u64, u32)
     requires { latest_finish op.now < 2 ^ 64 }
     ensures { (ops : List Op)
         → IsLeastFinish ops op.now.value cluster.now.f cluster.now.first
         → IsLeastFinish (ops ++ op.now ∷ []) op.now.value result.0 result.1 }
 {
-    let finish = latest_finish(op);
+    let finish = op.latest_finish();
     match finish.cmp(&cluster.f) {
         Ordering::Less => (finish, op.rec),
         Ordering::Equal => (finish, cluster.first.min(op.rec)),
@@ -163,15 +137,15 @@ fn least_finish(cluster: &Cluster, op: &Op) -> (u64, u32)
     }
 }
 
-/// The greatest earliest start of the reads of a cluster and one more operation of its value, and the
-/// least record with it.
+// The greatest earliest start of the reads of a cluster and one more operation of its value, and the
+// least record with it.
 fn greatest_start(cluster: &Cluster, op: &Op) -> (Option<u64>, u32)
     ensures { (ops : List Op) (w : Op)
         → op.now.value ≡ w.value
         → AreReadsOf ops w cluster.now.s cluster.now.last
         → AreReadsOf (ops ++ op.now ∷ []) w result.0 result.1 }
 {
-    let start = earliest_start(op);
+    let start = op.earliest_start();
     match (op.kind, cluster.s) {
         (Kind::Write, s) => (s, cluster.last),
         (Kind::Read, None) => (Some(start), op.rec),
@@ -183,7 +157,7 @@ fn greatest_start(cluster: &Cluster, op: &Op) -> (Option<u64>, u32)
     }
 }
 
-/// A cluster with one more operation of its value.
+// A cluster with one more operation of its value.
 fn with_operation(cluster: &Cluster, op: &Op) -> Cluster
     requires { latest_finish op.now < 2 ^ 64 }
     ensures { (ops : List Op) (w : Op)
@@ -202,7 +176,7 @@ fn with_operation(cluster: &Cluster, op: &Op) -> Cluster
     }
 }
 
-/// Takes the operations of a key into the clusters of their values.
+// Takes the operations of a key into the clusters of their values.
 fn gather(table: &mut [Option<Cluster>], key: &KeyOps)
     requires valid { IsValidKey key.now }
     requires writes { IsWriteTable key.now table.old }
@@ -216,7 +190,7 @@ fn gather(table: &mut [Option<Cluster>], key: &KeyOps)
     }
 }
 
-/// The first read whose value no operation wrote.
+// The first read whose value no operation wrote.
 fn first_unmatched(table: &[Option<Cluster>], key: &KeyOps) -> Option<u32>
     requires valid { IsValidKey key.now }
     requires clusters { IsClusterTable key.now table.now }
@@ -234,7 +208,7 @@ fn first_unmatched(table: &[Option<Cluster>], key: &KeyOps) -> Option<u32>
     None
 }
 
-/// The first read that has certainly finished before its write starts.
+// The first read that has certainly finished before its write starts.
 fn first_early(table: &[Option<Cluster>], key: &KeyOps) -> Option<u32>
     requires valid { IsValidKey key.now }
     requires clusters { IsClusterTable key.now table.now }
@@ -245,7 +219,7 @@ fn first_early(table: &[Option<Cluster>], key: &KeyOps) -> Option<u32>
     for op in key.ops.as_slice() {
         match (op.kind, table[op.value as usize]) {
             (Kind::Read, Some(cluster)) => {
-                if latest_finish(op) < cluster.w {
+                if op.latest_finish() < cluster.w {
                     return Some(op.rec);
                 }
             }
@@ -256,7 +230,7 @@ fn first_early(table: &[Option<Cluster>], key: &KeyOps) -> Option<u32>
     None
 }
 
-/// The cluster of an operation, if it is a write.
+// The cluster of an operation, if it is a write.
 fn cluster_in(table: &[Option<Cluster>], op: &Op) -> Option<Cluster>
     ensures { result ≡ cluster_in table.now op.now }
 {
@@ -266,7 +240,7 @@ fn cluster_in(table: &[Option<Cluster>], op: &Op) -> Option<Cluster>
     }
 }
 
-/// The clusters of a table in the order of the writes.
+// The clusters of a table in the order of the writes.
 fn clusters_in_order(
     alloc: Global,
     table: &[Option<Cluster>],
@@ -281,7 +255,7 @@ fn clusters_in_order(
         .collect(alloc)
 }
 
-/// The clusters of a key in the order of their writes.
+// The clusters of a key in the order of their writes.
 fn clusters_of(
     alloc: Global,
     table: &[Option<Cluster>],
