@@ -11,6 +11,7 @@ use Rattle.stale_model.specs.Chains.{Round, removes, repeats, refutes, rounds, e
 use Rattle.lbt_epochs.specs.Lists.{Lists, with_placed, left, cluster_at}
 use Rattle.lbt_epochs.specs.Steps.{clusters_left, rounds_of, IsReady, HasRemoved, HasKept}
 use Rattle.lbt_epochs.proofs.Removed.{fewer_after_rounds}
+use Rattle.lbt_epochs.proofs.WritesOfPlaces.{mapped_reverse}
 use Rattle.lbt_epochs.proofs.LeftWithout.{left_without, ready_with}
 
 pub some_there : (o p : Option ℕ) → o ≡ p → is_some o ≡ true → p ≡ None → ⊥
@@ -32,11 +33,6 @@ pub record AreEpochsSoFar (d : ℕ) (clusters : List Cluster) (old lists : Lists
   pub more : ℕ
   pub enough : length (clusters_left clusters lists) ≤ more
   pub epochs_are : epochs d (length (clusters_left clusters old)) (clusters_left clusters old) [] ≡ epochs d more (clusters_left clusters lists) (listing_of clusters lists)
-
-mapped_reverse : {X Y : Type 0} (f : X → Y) (xs : List X) → map f (reverse xs) ≡ reverse (map f xs)
-mapped_reverse f [] = refl
-mapped_reverse {Y = Y} f (x ∷ xs) =
-    ap (map f) (reverse-append (x ∷ []) xs) ∙ map-append f (reverse xs) (x ∷ []) ∙ ap (λ (l : List Y). l ++ f x ∷ []) (mapped_reverse f xs) ∙ sym (reverse-append (f x ∷ []) (map f xs))
 
 -- more places go in front of the listing, the first of them last
 listing_more : (clusters : List Cluster) (placed places : List ℕ)

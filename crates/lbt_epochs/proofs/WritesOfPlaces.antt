@@ -1,9 +1,9 @@
 -- The writes at places, and those of the places that are left as they are listed.
-use Rattle.std.proofs.Common.{◌≡◌, ℕ, ◌+◌, ◌≤◌, List, [], ◌∷◌, ◌++◌, map, length, take, Option, Some, None, refl, sym, ◌∙◌, ap, inl, inr}
+use Rattle.std.proofs.Common.{◌≡◌, ℕ, ◌+◌, ◌≤◌, List, [], ◌∷◌, ◌++◌, map, reverse, length, take, Option, Some, None, refl, sym, ◌∙◌, ap, inl, inr}
 use Rattle.std.specs.Prelude.{slice_get}
 use Rattle.std.proofs.lemmas.Option.{slice_get_within, slice_get-get_or, get_or_from_slice_get}
 use Rattle.std.proofs.lemmas.Bool.{cases_lt}
-use Rattle.std.proofs.lemmas.List.{take_all, map_push, take_more}
+use Rattle.std.proofs.lemmas.List.{take_all, map_push, map-append, reverse-append, take_more}
 use Rattle.stale_model.specs.declared.Cluster.{Cluster}
 use Rattle.stale_model.specs.Chains.{writes_of}
 use Rattle.lbt_epochs.specs.Lists.{cluster_at}
@@ -13,9 +13,15 @@ pub writes_of_places : (clusters : List Cluster) (places : List ℕ) → map (λ
 writes_of_places clusters [] = refl
 writes_of_places clusters (p ∷ ps) = ap (λ (l : List ℕ). (cluster_at clusters p).write ∷ l) (writes_of_places clusters ps)
 
--- next stands at a place of the list, or is none at its end
-pub record IsNextAt (places : List ℕ) (count : ℕ) (next : Option ℕ) : Type 0 where
-  pub next_is : next ≡ slice_get places count
+-- turned round they are those of the places turned round
+pub mapped_reverse : {X Y : Type 0} (f : X → Y) (xs : List X) → map f (reverse xs) ≡ reverse (map f xs)
+mapped_reverse f [] = refl
+mapped_reverse {Y = Y} f (x ∷ xs) =
+    ap (map f) (reverse-append (x ∷ []) xs) ∙ map-append f (reverse xs) (x ∷ []) ∙ ap (λ (l : List Y). l ++ f x ∷ []) (mapped_reverse f xs) ∙ sym (reverse-append (f x ∷ []) (map f xs))
+
+pub writes_turned : (clusters : List Cluster) (places : List ℕ)
+    → reverse (map (λ at. (cluster_at clusters at).write) places) ≡ writes_of (map (cluster_at clusters) (reverse places))
+writes_turned clusters places = sym (mapped_reverse (λ at. (cluster_at clusters at).write) places) ∙ writes_of_places clusters (reverse places)
 
 -- at the end nothing is left of the list
 pub nothing_next : (places : List ℕ) (count : ℕ) → slice_get places count ≡ None → length places ≤ count
