@@ -23,7 +23,7 @@ with_placed lists placed = record { candidates = lists.candidates; writes = list
 abbrev pub left : List ℕ → List ℕ → List ℕ
 left placed places = filter (λ at. not (list_any (λ other. other == at) placed)) places
 
--- what stands past the end of a list of clusters
+-- what a place past the end is read as
 abbrev pub no_cluster : Cluster
 no_cluster = record { write = 0; f = 0; w = 0; s = None; first = 0; last = 0 }
 

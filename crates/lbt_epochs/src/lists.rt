@@ -11,7 +11,7 @@ use std::alloc::{AllocError, Global};
 use std::cmp::Ordering;
 use std::marker::Model;
 
-// What stands past the end of a list of clusters.
+// What a place past the end is read as.
 const NO_CLUSTER: Cluster = Cluster {
     write: 0,
     f: 0,
@@ -21,8 +21,16 @@ const NO_CLUSTER: Cluster = Cluster {
     last: 0,
 };
 
-/// The cluster at a place.
+// The cluster at a place.
 pub(crate) fn cluster_at(clusters: &[Cluster], at: u32) -> Cluster
+    requires { at < length clusters.now }
+    ensures { result ≡ cluster_at clusters.now at }
+{
+    clusters[at as usize]
+}
+
+// The same for any place, since a closure that sorts takes any.
+fn read_at(clusters: &[Cluster], at: u32) -> Cluster
     ensures { result ≡ cluster_at clusters.now at }
 {
     match clusters.get(at as usize) {
@@ -49,8 +57,8 @@ fn late_write_cmp(a: &Cluster, b: &Cluster) -> Ordering
 fn late_read_cmp(a: &Cluster, b: &Cluster) -> Ordering
     ensures { result ≡ late_read_order a.now b.now }
 {
-    let (a_start, b_start) = (a.s.unwrap_or(0), b.s.unwrap_or(0));
-    b_start.cmp(&a_start).then(a.write.cmp(&b.write))
+    let by_start = b.reads_start().cmp(&a.reads_start());
+    by_start.then(a.write.cmp(&b.write))
 }
 
 // The places of the clusters.
@@ -67,7 +75,7 @@ fn places_with_reads(alloc: Global, clusters: &[Cluster]) -> Result<Vec<u32>, Al
     ensures { IfOk result (λ places. places.items ≡ filter (λ at. is_some (cluster_at clusters.now at).s) (range_with_len 0 (length clusters.now))) }
 {
     (0..clusters.len() as u32)
-        .filter(|at| cluster_at(clusters, *at).s.is_some())
+        .filter(|at| read_at(clusters, *at).s.is_some())
         .collect(alloc)
 }
 
@@ -78,8 +86,8 @@ fn candidate_places(alloc: Global, clusters: &[Cluster]) -> Result<Vec<u32>, All
 {
     let mut places = places_of(alloc, clusters)?;
     places.sort_unstable_by(|a, b| candidate_cmp(
-        &cluster_at(clusters, *a),
-        &cluster_at(clusters, *b),
+        &read_at(clusters, *a),
+        &read_at(clusters, *b),
     ));
     Ok(places)
 }
@@ -91,8 +99,8 @@ fn late_write_places(alloc: Global, clusters: &[Cluster]) -> Result<Vec<u32>, Al
 {
     let mut places = places_of(alloc, clusters)?;
     places.sort_unstable_by(|a, b| late_write_cmp(
-        &cluster_at(clusters, *a),
-        &cluster_at(clusters, *b),
+        &read_at(clusters, *a),
+        &read_at(clusters, *b),
     ));
     Ok(places)
 }
@@ -104,8 +112,8 @@ fn late_read_places(alloc: Global, clusters: &[Cluster]) -> Result<Vec<u32>, All
 {
     let mut places = places_with_reads(alloc, clusters)?;
     places.sort_unstable_by(|a, b| late_read_cmp(
-        &cluster_at(clusters, *a),
-        &cluster_at(clusters, *b),
+        &read_at(clusters, *a),
+        &read_at(clusters, *b),
     ));
     Ok(places)
 }

@@ -4,7 +4,8 @@ use Rattle.std.proofs.lemmas.Fn.{always_returns_same}
 use Rattle.std.proofs.lemmas.List.Sorted.{ranks_by}
 use Rattle.stale_model.specs.Chains.{candidate_order}
 use Rattle.lbt_epochs.specs.Lists.{cluster_at}
-use Rattle.lbt_epochs.proofs.Sorted.{candidate_order-total, filter_all}
+use Rattle.lbt_epochs.proofs.TotalOrders.{candidate_order-total}
+use Rattle.lbt_epochs.proofs.Filters.{filter_all}
 use Rattle.lbt_epochs.proofs.lists.candidate_places.Goals as goal
 
 pub returns : goal.returns

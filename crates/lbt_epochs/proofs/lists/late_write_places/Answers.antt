@@ -3,7 +3,8 @@ use Rattle.std.specs.Ordering.{is_lt}
 use Rattle.std.proofs.lemmas.Fn.{always_returns_same}
 use Rattle.std.proofs.lemmas.List.Sorted.{ranks_by}
 use Rattle.lbt_epochs.specs.Lists.{cluster_at, late_write_order}
-use Rattle.lbt_epochs.proofs.Sorted.{late_write_order-total, filter_all}
+use Rattle.lbt_epochs.proofs.TotalOrders.{late_write_order-total}
+use Rattle.lbt_epochs.proofs.Filters.{filter_all}
 use Rattle.lbt_epochs.proofs.lists.late_write_places.Goals as goal
 
 pub returns : goal.returns
