@@ -23,6 +23,7 @@ pub mod LinksRing
 pub mod LinksMade
 pub mod ListsKept
 pub mod TotalOrders
+pub mod NumberedPlaces
 pub mod SortedPlaces
 -- The clusters at places that are left.
 pub mod LeftPlaces

@@ -16,6 +16,7 @@ use Rattle.stale_model.specs.Clusters.{IsReadOf, AreReadsOf, IsClusterOf, writes
 use Rattle.stale_model.specs.Zones.{reads_start}
 use Rattle.stale_model.specs.Refutations.{IsOfRecord, IsOfCluster, IsUnplaced, Forces, PrecedesUnplaced, HardHolds, SoftHolds, EndHolds, TryHolds}
 use Rattle.stale_model.proofs.Places.{something_at, same_at, contains_at, place_of, write_stands, write_there}
+use Rattle.model_laws.proofs.Between.{last_read}
 use Rattle.lbt_epochs.proofs.Parts.{Apart, IsPart, WritesStandOnce}
 use Rattle.lbt_epochs.proofs.ChainForced.{IsHardEnd, IsSoftEnd, IsEnd, IsForcedChain}
 use Rattle.lbt_epochs.proofs.RefutedRounds.{IsForcedTry}
@@ -45,12 +46,6 @@ writes_once cs differ i j write ati atj =
     let (c, atc, same) = cluster_at_write cs i write ati in
     let (e, ate, same2) = cluster_at_write cs j write atj in
     differ i j c e atc ate (same ∙ sym same2)
-
--- the read of a cluster that starts last, where it starts above 0
-last_read : (ops : List Op) (w : Op) (s : Option ℕ) (last : ℕ) → AreReadsOf ops w s last → 0 < unwrap_or s 0
-    → (r : Op) × IsReadOf ops w.value r × (earliest_start r ≡ unwrap_or s 0) × (r.rec ≡ last)
-last_read ops w None last reads some = absurd (omega arith)
-last_read ops w (Some s) last reads some = (reads.op, reads.member, reads.start_is, reads.last_is)
 
 -- the operation a of the cluster c finishes first
 record Finishes (ops : List Op) (c : Cluster) (a : Op) : Type 0 where

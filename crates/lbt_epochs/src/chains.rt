@@ -1,5 +1,5 @@
 //! Chains: a cluster that is placed, and after it each one that the cluster placed last asks for.
-ghost use Rattle.std.specs.Prelude.{◌≡◌, ℕ, ◌+◌, ◌<◌, nat_lt, length, map, slice_get, Contains, IfSome};
+ghost use Rattle.std.specs.Prelude.{◌≡◌, ◌+◌, ◌<◌, nat_lt, length, map, slice_get, Contains, IfSome};
 ghost use Rattle.std.specs.Option.{ForSome};
 ghost use Rattle.stale_model.specs.Zones.{reads_start};
 ghost use Rattle.lbt_epochs.specs.Lists.{left, cluster_at};
@@ -9,14 +9,14 @@ use crate::lists::{Lists, cluster_at};
 use stale_model::{Cluster, End};
 
 // What the cluster placed last asks of those not placed.
-pub(crate) enum Asked {
+enum Asked {
     Nothing,
     // The cluster at this place stands directly before it.
     One(u32),
     Impossible(End),
 }
 
-// How a chain ran, from its first cluster to the one placed last.
+/// How a chain ran, from its first cluster to the one placed last.
 pub(crate) enum Ran {
     Ends,
     Fails(End),
@@ -82,7 +82,7 @@ fn demand_at(d: u64, clusters: &[Cluster], lists: &Lists, at: u32) -> Asked
     }
 }
 
-// Places the cluster at this place, and after it those of its chain: at most `room` more.
+/// Places the cluster at this place, and after it those of its chain: at most `room` more.
 pub(crate) fn run(
     d: u64,
     clusters: &[Cluster],

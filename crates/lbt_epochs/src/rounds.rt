@@ -1,6 +1,6 @@
 //! Rounds: each candidate is tried as the next one, with more room for its chain from round to round.
 ghost use Rattle.std.specs.Prelude.{◌≡◌, ◌+◌, ◌^◌, ◌<◌, length, map, take, All, Contains, IfOk};
-ghost use Rattle.stale_model.specs.Chains.{rounds, round};
+ghost use Rattle.stale_model.specs.Chains.{round};
 ghost use Rattle.lbt_epochs.specs.Lists.{with_placed, left, cluster_at};
 ghost use Rattle.lbt_epochs.specs.Steps.{clusters_left, room_in, rounds_of, IsReady, IsTried, IsFound, WentSo};
 
@@ -17,11 +17,11 @@ enum Tried {
     Cut,
 }
 
-// What rounds found: a chain that ends, which stays placed, or that none does.
+/// What rounds found: a chain that ends, which stays placed, or that none does.
 #[derive(Drop)]
 pub(crate) enum Found {
     Removes,
-    // One try for each candidate, in their order.
+    /// One try for each candidate, in their order.
     Refutes(List<Try>),
 }
 
@@ -34,10 +34,16 @@ fn undo_to(lists: &mut Lists, count: usize)
     }
 }
 
-// The write records of the clusters at these places.
-pub(crate) fn writes_at(alloc: Global, clusters: &[Cluster], places: &[u32]) -> Result<List<u32>, Memory>
+/// The write records of the clusters at these places.
+pub(crate) fn writes_at(
+    alloc: Global,
+    clusters: &[Cluster],
+    places: &[u32],
+) -> Result<List<u32>, Memory>
     requires { All (λ at. at < length clusters.now) places.now }
-    ensures { IfOk result (λ writes. writes ≡ map (λ at. (cluster_at clusters.now at).write) places.now) }
+    ensures {
+        IfOk result (λ writes. writes ≡ map (λ at. (cluster_at clusters.now at).write) places.now)
+    }
 {
     let writes = places
         .iter()
@@ -107,14 +113,14 @@ fn round(
     }
 }
 
-// How many clusters a chain has at most after its first in this round: 2^round - 1, and no fewer than there are.
+// How many clusters a chain has at most after its first in this round: 2^round - 1, or no fewer than there are.
 fn room_in(round: usize) -> u64
     ensures { result ≡ room_in round }
 {
     (1 << round.min(32)) - 1
 }
 
-// Rounds, each with room for twice as long a chain, until no chain is cut in vain.
+/// Rounds, each with room for twice as long a chain, until no chain is cut in vain.
 pub(crate) fn rounds(
     alloc: Global,
     d: u64,
@@ -123,7 +129,10 @@ pub(crate) fn rounds(
 ) -> Result<Found, Memory>
     requires ready { IsReady clusters.now lists.old }
     requires few { length clusters.now < 2 ^ 32 }
-    ensures { IfOk result (IsFound clusters.now (rounds_of d clusters.now lists.old) lists.old lists.new) }
+    ensures {
+        let rounds = rounds_of d clusters.now lists.old in
+        IfOk result (IsFound clusters.now rounds lists.old lists.new)
+    }
 {
     for r in 0..clusters.len() + 1 {
         if let Some(found) = round(alloc, d, clusters, lists, room_in(r))? {
