@@ -1,5 +1,5 @@
 //! Answers worked by hand, and one of more clusters than two bytes count.
-ghost use Rattle.std.specs.Prelude.{◌≡◌, ◌^◌, ◌<◌, length, IfOk};
+ghost use Rattle.std.specs.Prelude.{◌≡◌, ◌<◌, length, IfOk};
 ghost use Rattle.stale_model.specs.Clusters.{WriteRecordsDiffer};
 
 use super::*;
