@@ -1,7 +1,6 @@
 -- Writes that are numbered in turn differ.
-use Rattle.std.proofs.Common.{◌≡◌, ℕ, zero, suc, ◌+◌, ◌<◌, ◌^◌, List, [], ◌∷◌, map, length, get_or, None, refl, arith}
+use Rattle.std.proofs.Common.{◌≡◌, ℕ, ◌+◌, ◌<◌, ◌^◌, List, map, length, get_or, None, refl, arith}
 use Rattle.std.specs.List.{range_with_len}
-use Rattle.std.specs.List.Sorted.{IsStrictlyIncreasing}
 use Rattle.std.proofs.lemmas.List.FromFn.{length-map-range_with_len, get_or-map-range_with_len}
 use Rattle.std.proofs.lemmas.List.{length-map, get_or-map}
 use Rattle.stale_model.specs.declared.Cluster.{Cluster}

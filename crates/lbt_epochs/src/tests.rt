@@ -100,11 +100,14 @@ fn writes_that_are_stuck(rt: HostRuntime) -> Result<(), Fail> {
 
 // So many writes, each at a tick of its own, without reads.
 fn writes_in_turn(alloc: Global, count: u32) -> Result<Vec<Cluster>, AllocError>
-    ensures {
-        IfOk result (λ clusters. clusters.items ≡ map (λ tick. record {
-            write = tick; f = tick; w = tick; s = None; first = tick; last = tick
-        }) (range_with_len 0 count))
-    }
+    ensures { IfOk result (λ clusters. clusters.items ≡ map (λ tick. record {
+      write = tick;
+      f = tick;
+      w = tick;
+      s = None;
+      first = tick;
+      last = tick;
+    }) (range_with_len 0 count)) }
 {
     (0..count)
         .map(|tick| Cluster {
