@@ -65,6 +65,49 @@ fn a_long_history_without_stale_reads(rt: HostRuntime) -> Result<(), Fail> {
     Ok(())
 }
 
+const SCORES: u64 = 3_000;
+
+// A cluster in one of 500,001 slots of time, which records take out of turn. Its read starts after the write of the
+// next slot: by as many ticks as the slots before, up to 3,000, and not at all later on.
+fn stale_cluster(i: u32) -> Cluster
+    requires { i < CLUSTERS }
+    ensures write { result.write ≡ 2 * i }
+    ensures starts { result.w ≤ result.f }
+{
+    let slot = u64::from(i) * 309_017 % u64::from(CLUSTERS);
+    let tick = 10_000 * slot;
+    let score = if slot <= SCORES { slot } else { 0 };
+    Cluster {
+        write: 2 * i,
+        f: tick + 1,
+        w: tick,
+        s: Some(tick + 10_001 + score),
+        first: 2 * i,
+        last: 2 * i + 1,
+    }
+}
+
+fn stale_history(alloc: Global) -> Result<Vec<Cluster>, Memory>
+    ensures differ { IfOk result (λ clusters. WriteRecordsDiffer clusters.items) }
+    ensures starts { IfOk result (λ clusters. All (λ c. c.w ≤ c.f) clusters.items) }
+{
+    let mut clusters = Vec::new(alloc);
+    for i in 0..CLUSTERS {
+        clusters.push(stale_cluster(i)).map_err(|_| Memory)?;
+    }
+    Ok(clusters)
+}
+
+// Each pair that a sweep finds scores one more than the pair before it. One sweep a score takes minutes.
+#[test]
+fn a_long_history_whose_reads_get_staler(rt: HostRuntime) -> Result<(), Fail> {
+    let clusters = stale_history(rt.alloc())?;
+    let least = least_delta(rt.alloc(), &clusters)?;
+    assert_eq!(rt; least.delta, SCORES);
+    assert_eq!(rt; least.order.as_slice().len(), CLUSTERS as usize);
+    Ok(())
+}
+
 // A write that a second write overwrites before a read of it starts.
 fn overwritten() -> [Cluster; 3]
     ensures differ { WriteRecordsDiffer result }
