@@ -77,7 +77,7 @@ fn copy_from(bytes: &[u8], place: usize, into: &mut [u8]) -> usize
 }
 
 impl MemoryShelf {
-    ghost use Rattle.audit_ports.specs.MemoryShown.{memory_shown, shelf_calls, shelf_files, bytes_left, memory_sink_shown, sink_calls, sink_bytes, sink_room};
+    ghost use Rattle.audit_ports.specs.MemoryShown.{memory_shown, shelf_calls};
 
     /// Holds these files, each a name with its bytes. Its calls are numbered from 1 over all methods of `Shelf`, and
     /// those whose number is in `fail` fail. Of two files of one name the second could never be opened. The files are
@@ -102,9 +102,10 @@ impl MemoryShelf {
 }
 
 impl Shelf for MemoryShelf {
-    ghost use Rattle.std.specs.Prelude.{◌≡◌, ◌<◌, ◌↔◌, min, length, None, IsSome, IsErr, IfOk, IsErrOf, ◌⊎◌, OnErr};
+    ghost use Rattle.std.specs.Prelude.{◌≡◌, ◌<◌, ◌↔◌, min, length, None, IsSome, IsErr, IfOk, IsErrOf};
     ghost use Rattle.audit_ports.specs.Shelf.{Opens, Reads, file_at};
     ghost use Rattle.audit_ports.specs.Calls.{CountsCall, IsFailingCall};
+    ghost use Rattle.audit_ports.specs.MemoryShown.{memory_shown, shelf_calls, shelf_files, bytes_left};
 
     ghost shown = { memory_shown };
 
@@ -160,6 +161,7 @@ pub struct MemorySink {
 }
 
 impl MemorySink {
+    ghost use Rattle.audit_ports.specs.MemoryShown.{memory_sink_shown, sink_calls, sink_bytes};
 
     /// Has nothing written. Its calls are numbered from 1 over both methods of `Sink`, and those whose number is in
     /// `fail` fail.
@@ -183,7 +185,10 @@ impl MemorySink {
 }
 
 impl Sink for MemorySink {
+    ghost use Rattle.std.specs.Prelude.{◌≡◌, ◌⊎◌, ◌<◌, ◌↔◌, length, IsErr, OnErr};
     ghost use Rattle.audit_ports.specs.Sink.{Writes, Flushes};
+    ghost use Rattle.audit_ports.specs.Calls.{CountsCall, IsFailingCall};
+    ghost use Rattle.audit_ports.specs.MemoryShown.{memory_sink_shown, sink_calls, sink_bytes, sink_room};
 
     ghost shown = { memory_sink_shown };
 

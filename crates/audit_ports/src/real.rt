@@ -21,7 +21,7 @@ pub struct RealShelf<R: Files + AllocGlobal + Drop> {
 }
 
 impl<R: Files + AllocGlobal + Drop> RealShelf<R> {
-    ghost use Rattle.audit_ports.specs.RealShown.{real_shown, real_sink_shown, stream_of};
+    ghost use Rattle.audit_ports.specs.RealShown.{real_shown};
 
     /// The files that a runtime reaches. None is open.
     pub fn over(rt: R) -> RealShelf<R>
@@ -54,8 +54,9 @@ fn open_real<R: Files + AllocGlobal>(rt: &R, name: &[u8]) -> Result<(Vec<u8>, R:
 }
 
 impl<R: Files + AllocGlobal + Drop> Shelf for RealShelf<R> {
-    ghost use Rattle.std.specs.Prelude.{IsErrOf, IsUtf8, None, OnOk};
+    ghost use Rattle.std.specs.Prelude.{IsErrOf, IsUtf8};
     ghost use Rattle.audit_ports.specs.Shelf.{Opens};
+    ghost use Rattle.audit_ports.specs.RealShown.{real_shown};
 
     ghost shown = { real_shown };
 
@@ -105,6 +106,7 @@ pub struct RealSink<W: Write + Drop> {
 }
 
 impl<W: Write + Drop> RealSink<W> {
+    ghost use Rattle.audit_ports.specs.RealShown.{real_sink_shown};
 
     /// An output that passes all on to a stream.
     pub fn over(stream: W) -> RealSink<W>
@@ -115,6 +117,7 @@ impl<W: Write + Drop> RealSink<W> {
 }
 
 impl RealSink<Stdout> {
+    ghost use Rattle.audit_ports.specs.RealShown.{real_sink_shown};
 
     /// Standard output.
     pub fn output(rt: HostRuntime) -> RealSink<Stdout>
@@ -125,6 +128,7 @@ impl RealSink<Stdout> {
 }
 
 impl RealSink<Stderr> {
+    ghost use Rattle.audit_ports.specs.RealShown.{real_sink_shown};
 
     /// Standard error.
     pub fn error(rt: HostRuntime) -> RealSink<Stderr>
@@ -149,8 +153,10 @@ fn write_whole<W: Write>(stream: &mut W, piece: &[u8]) -> Result<(), Failed>
 }
 
 impl<W: Write + Drop> Sink for RealSink<W> {
+    ghost use Rattle.std.specs.Prelude.{None, OnOk};
     ghost use Rattle.std.specs.Io.KnownBytes.{Appends};
     ghost use Rattle.audit_ports.specs.Sink.{Writes};
+    ghost use Rattle.audit_ports.specs.RealShown.{real_sink_shown, stream_of};
 
     ghost shown = { real_sink_shown };
 

@@ -15,7 +15,7 @@ use Rattle.stale_model.specs.PrintedVerdicts.{IsPrintedTwo}
 use Rattle.stale_model.specs.Truth.{TwoHolds}
 use Rattle.model_laws.proofs.Named.{matched_keys_name_their_writes}
 use Rattle.model_laws.proofs.Refuted.{refutations_exclude_orders}
-use Rattle.model_laws.proofs.ClustersOne.{cluster_writes_differ}
+use Rattle.stale_model.proofs.ClustersOne.{cluster_writes_differ}
 use Rattle.stale_model.proofs.Places.{contains_at}
 use Rattle.stale_model.proofs.Sorted.{one_by_number}
 use Rattle.delta_score.specs.WriteLists.{write_records}
@@ -25,7 +25,7 @@ use Rattle.lbt_epochs.specs.TwoLaws.{AreListed}
 use Rattle.lbt_epochs.proofs.ListedEpochs.{listings_are_answered}
 use Rattle.lbt_epochs.proofs.RefutedAnswers.{refutations_are_answered}
 use Rattle.lbt_epochs.proofs.RefutedClusters.{cluster_at_write, member_of_write}
-use Rattle.lbt_epochs.proofs.ListedParts.{write_there}
+use Rattle.stale_model.proofs.Places.{write_there}
 
 -- a listing of the clusters lists each write once
 pub listing_lists_writes : (ops : List Op) (clusters listing : List Cluster) → AreClusters ops clusters → ListsEachOnce clusters listing

@@ -17,6 +17,7 @@ use Rattle.stale_model.specs.Faults.{IsClearKey, IsMatchedKey}
 use Rattle.stale_model.specs.LeastDelta.{HasOrder}
 use Rattle.stale_model.specs.Orders.{IsOrder}
 use Rattle.stale_model.specs.Clusters.{AreClusters, WriteRecordsDiffer, writes_of}
+use Rattle.stale_model.specs.Zones.{four_of}
 use Rattle.stale_model.specs.Chains.{IsAnswer}
 use Rattle.stale_model.specs.PrintedVerdicts.{IsPrintedFour, IsPrintedTwo, IsPrintedJudgement, IsPrintedVerdict}
 use Rattle.stale_model.proofs.ClustersOne.{cluster_writes_differ}
@@ -47,10 +48,10 @@ module _ (key : KeyOps) (d : ℕ) (clusters : List Cluster) (valid : IsValidKey 
       absurd (refutations_exclude_orders (operations key) d d refutation names (refutations_are_answered (operations key) d clusters refutation names are answer) (omega arith) order is)
 
   listing_of_yes : (two : Two) → IsAnswer d clusters two → IsYes two → HasListing d clusters
-  listing_of_yes (Two.TheVariants.Yes writes) answer yes =
+  listing_of_yes (Two.TheVariants.Yes writes) answer is_yes =
       let listed = listings_are_answered d clusters writes (cluster_writes_differ (operations key) clusters are) answer in
       record { listing = listed.listing; is = listed.is }
-  listing_of_yes (Two.TheVariants.No refutation) answer yes = absurd yes
+  listing_of_yes (Two.TheVariants.No refutation) answer is_yes = absurd is_yes
 
   order_of_listing : IsClearKey (operations key) → HasListing d clusters → HasOrder (operations key) d 2
   order_of_listing clear has =
@@ -78,7 +79,9 @@ four_exists : (clusters : List Cluster) (delta : ℕ) → WriteRecordsDiffer clu
 four_exists clusters zero differ least = (None, refl)
 four_exists clusters (suc d) differ least = elim (pairs_exist d clusters differ) [
   | inl apart ↦ absurd (let (i, j, c) = least.least d (omega arith) in apart i j c.i_there c.j_there c.apart c.conflict)
-  | inr (i, j, pair) ↦ (Some _, (omega arith, record { i = i; j = j; pair = rw (suc_less d) pair; four_is = refl }))
+  | inr (i, j, pair) ↦
+      let below : suc d - 1 ≡ d = omega arith in
+      (Some (four_of (suc d - 1) i j), (omega arith, record { i = i; j = j; pair = rw below pair; four_is = refl }))
 ]
 
 two_exists : (ops : List Op) (clusters : List Cluster) → (two : TwoPart) × IsPrintedTwo ops clusters two

@@ -24,7 +24,8 @@ use Rattle.stale_model.proofs.ClustersOne.{cluster_writes_differ}
 use Rattle.model_laws.proofs.Named.{matched_keys_name_their_writes}
 use Rattle.model_laws.proofs.ShownTrue.{shown_verdicts_are_true}
 use Rattle.delta_score.proofs.Ordered.{zone_orders_are_orders}
-use Rattle.delta_score.proofs.Crossings.{pairs_show_four, zone_orders_have_no_crossing}
+use Rattle.zones.proofs.Crossings.{no_crossing-from_no_conflict}
+use Rattle.delta_score.proofs.Pairs.{pairs_show_four}
 use Rattle.delta_score.proofs.ListingOrders.{listings_are_orders}
 use Rattle.lbt_epochs.proofs.ListedEpochs.{listings_are_answered}
 use Rattle.lbt_epochs.proofs.RefutedAnswers.{refutations_are_answered}
@@ -35,7 +36,7 @@ module _ (key : KeyOps) (valid : IsValidKey key) where
   -- the records of a pair show that there is no order at d
   four_holds : (clusters : List Cluster) (d : ℕ) (four : Four) → NamesItsWrites (operations key) → AreClusters (operations key) clusters → IsFourOfPair clusters d four → FourHold (operations key) d four
   four_holds clusters d four names are is =
-      subst (FourHold (operations key) d) (sym is.four_is) (pairs_show_four (operations key) d clusters is.pair.zones is.i is.j names are is.pair.zone_order is.pair.pair)
+      subst (FourHold (operations key) d) (sym is.four_is) (pairs_show_four (operations key) d clusters is.i is.j names are is.pair)
 
   four_shows : (clusters : List Cluster) (delta : ℕ) (four : Option Four) → NamesItsWrites (operations key) → AreClusters (operations key) clusters → IsPrintedFour clusters delta four → FourShow (operations key) delta four
   four_shows clusters delta None names are none = none
@@ -44,7 +45,7 @@ module _ (key : KeyOps) (valid : IsValidKey key) where
   delta_shown : (judgement : Judgement) → IsPrintedJudgement (operations key) judgement → ShowsDelta (operations key) judgement.delta judgement.order judgement.four
   delta_shown judgement h =
       let names = matched_keys_name_their_writes key valid h.clear.matched in
-      let no_crossing = zone_orders_have_no_crossing (operations key) judgement.delta h.clusters h.order.zones h.are h.no_conflict h.order.zone_order in
+      let no_crossing = no_crossing-from_no_conflict judgement.delta h.clusters h.order.zones (cluster_writes_differ (operations key) h.clusters h.are) h.order.zone_order h.no_conflict in
       record {
         atomic = zone_orders_are_orders key judgement.delta h.clusters h.order.zones judgement.order valid h.clear h.are h.order.zone_order.each_once no_crossing h.order.operation_order;
         least = four_shows h.clusters judgement.delta judgement.four names h.are h.four;

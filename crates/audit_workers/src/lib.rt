@@ -113,7 +113,6 @@ pub fn judge_all<R: Threads + Sync, G: Gate>(
     ensures shown { IfOk result (EachKeyHas IsShown history.now.keys) }
     ensures printed { IfOk result (ArePrintedVerdicts history.now.keys) }
 {
-    let _ = (rt, workers);
     judge_each(alloc, history, gate)
 }
 

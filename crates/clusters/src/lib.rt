@@ -15,7 +15,6 @@ pub use stale_model::Cluster;
 use stale_model::{INITIAL_WRITE, KeyOps, Kind, List, Memory, Op};
 use std::alloc::{AllocError, Global};
 use std::cmp::Ordering;
-use std::iter;
 
 /// What the operations of a key are sorted into: its first kind of fault, with the least record that
 /// has it, and its clusters in rising order of the write's record, the initial write's first.
@@ -249,8 +248,7 @@ fn clusters_in_order(
     ensures { IfOk result
         (λ clusters. clusters.items ≡ filter_map (cluster_in table.now) (operations key.now)) }
 {
-    iter::once(INITIAL_WRITE)
-        .chain(key.ops.as_slice().iter().copied())
+    key.operations()
         .filter_map(|op| cluster_in(table, &op))
         .collect(alloc)
 }

@@ -10,8 +10,8 @@ use Rattle.stale_model.specs.Zones.{reads_start}
 use Rattle.stale_model.specs.Chains.{without, Demand, nothing, one, impossible, demand, Chain, ends, fails, cut, followed_by, chain_by, chain}
 use Rattle.stale_model.proofs.Places.{same_at, contains_at, place_of}
 use Rattle.stale_model.proofs.Sorted.{first_or_later}
-use Rattle.lbt_epochs.proofs.ChainParts.{Apart, IsPart, WritesStandOnce, in_without}
-use Rattle.lbt_epochs.proofs.ChainDemands.{ReadsLate, WritesLate, TwoReadLate, one_reads_late, hard_writes_late, soft_reads_late}
+use Rattle.lbt_epochs.proofs.Parts.{Apart, IsPart, WritesStandOnce, in_without}
+use Rattle.lbt_epochs.proofs.Demands.{ReadsLate, WritesLate, TwoReadLate, asks_one, hard_writes_late, soft_reads_late}
 
 -- the late write at the end of the chain cs, whose last cluster is c, is not in the chain
 pub record IsHardEnd (rest cs : List Cluster) (c : Cluster) (p u : ℕ) : Type 0 where
@@ -168,7 +168,7 @@ by_demand : (d : ℕ) (c : Cluster) (rest cs : List Cluster) (end : End) (go_on 
     → chain_by c q go_on ≡ fails cs end → ((x : Cluster) → ReadsLate d rest c x → go_on x ≡ fails cs end → IsForcedChain d c rest cs end)
     → IsForcedChain d c rest cs end
 by_demand d c rest cs end go_on nothing apart e f next = cc
-by_demand d c rest cs end go_on (one x) apart e f next = next x (one_reads_late d c rest x e) f
+by_demand d c rest cs end go_on (one x) apart e f next = next x (asks_one d c rest x e).late f
 by_demand d c rest cs end go_on (impossible found) apart e f next =
     let same : found ≡ end = cc in
     let list : c ∷ [] ≡ cs = cc in

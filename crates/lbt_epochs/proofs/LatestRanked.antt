@@ -13,7 +13,8 @@ use Rattle.stale_model.specs.Chains.{without, late_reads, is_later, latest, dema
 use Rattle.stale_model.specs.Zones.{reads_start}
 use Rattle.stale_model.proofs.Sorted.{first_or_later, contains_later}
 use Rattle.lbt_epochs.specs.Steps.{if_late}
-use Rattle.lbt_epochs.proofs.LeftFilters.{kept_is_there, kept_passes, kept_from, empty_has_none, contains_first, filter_within, filter_twice}
+use Rattle.lbt_epochs.proofs.Filters.{kept_is_there, kept_passes, kept_from, empty_has_none, contains_first, filter_within, filter_twice}
+use Rattle.lbt_epochs.proofs.Parts.{is_other}
 
 one_way_nat : (s t w v : ℕ) → (ltb t s || (eqb s t && ltb w v)) ≡ true → (ltb s t || (eqb t s && ltb v w)) ≡ false
 one_way_nat s t w v h = grind (arith, nat_tests)
@@ -98,10 +99,6 @@ late_first start bound rest [] ranked =
     let above = ltb-true bound (start z) (kept_passes (starts_late start bound) rest z c) in
     empty_has_none z (ranked.whole z (kept_is_there (starts_late start bound) rest z c) (omega arith)))
 late_first start bound rest (y ∷ ys) ranked = late_first_by start bound rest ys y (ltb bound (start y)) ranked refl
-
--- whether c is another than y
-abbrev is_other : Cluster → Cluster → Bool
-is_other y c = not (list_any (λ x. eqb x.write c.write) (y ∷ []))
 
 is_other_from : (w v : ℕ) → (w ≡ v → ⊥) → not (eqb w v || false) ≡ true
 is_other_from w v h = grind (arith, nat_tests)

@@ -1,6 +1,7 @@
 -- What the cluster at a place asks, by the places that are left in each order.
-use Rattle.std.proofs.Common.{◌≡◌, ℕ, ◌+◌, Bool, true, false, cond, List, map, Option, Some, None, ltb, refl, sym, ◌∙◌, ap}
+use Rattle.std.proofs.Common.{◌≡◌, ℕ, ◌+◌, ◌<◌, ◌≤◌, Bool, true, false, cond, List, map, Option, Some, None, ltb, refl, sym, ◌∙◌, ap}
 use Rattle.std.specs.Prelude.{slice_get, option_map}
+use Rattle.std.proofs.lemmas.Bool.{lt-ltb, le-ltb}
 use Rattle.std.proofs.lemmas.Option.{slice_get-map}
 use Rattle.stale_model.specs.declared.Cluster.{Cluster}
 use Rattle.stale_model.specs.declared.End.TheVariants.{Hard, Soft}
@@ -9,7 +10,7 @@ use Rattle.stale_model.specs.Zones.{reads_start}
 use Rattle.stale_model.proofs.Places.{contains_at}
 use Rattle.lbt_epochs.specs.Lists.{Lists, left, cluster_at}
 use Rattle.lbt_epochs.specs.Steps.{clusters_left, if_late, IsReady, IsAsked}
-use Rattle.lbt_epochs.specs.declared.two.Asked.TheVariants.{Nothing, One, Impossible}
+use Rattle.lbt_epochs.specs.declared.chains.Asked.TheVariants.{Nothing, One, Impossible}
 use Rattle.lbt_epochs.proofs.LatestRanked.{demand_by_order}
 use Rattle.lbt_epochs.proofs.LeftPlaces.{writes_ranked, reads_ranked, reads_left_too}
 
@@ -28,6 +29,15 @@ late_is_by false x y e = cc
 late_is_it : {X : Type 0} (start : X → ℕ) (bound : ℕ) (o : Option X) (x : X) → Some x ≡ if_late start bound o → o ≡ Some x
 late_is_it start bound None x e = cc
 late_is_it start bound (Some y) x e = late_is_by (ltb bound (start y)) x y e
+
+-- what stands first in a mapped list, where it is late, and where it isn't
+pub first_is_late : {X Y : Type 0} (f : X → Y) (start : Y → ℕ) (bound : ℕ) (xs : List X) (x : X) → Some x ≡ slice_get xs 0 → bound < start (f x)
+    → Some (f x) ≡ if_late start bound (slice_get (map f xs) 0)
+first_is_late f start bound xs x e late = rw (slice_get-map f xs 0, sym e, lt-ltb bound (start (f x)) late) refl
+
+pub first_is_not_late : {X Y : Type 0} (f : X → Y) (start : Y → ℕ) (bound : ℕ) (xs : List X) (x : X) → Some x ≡ slice_get xs 0 → start (f x) ≤ bound
+    → None ≡ if_late start bound (slice_get (map f xs) 0)
+first_is_not_late f start bound xs x e low = rw (slice_get-map f xs 0, sym e, le-ltb bound (start (f x)) low) refl
 
 module _ (d : ℕ) (clusters : List Cluster) (lists : Lists) (ready : IsReady clusters lists) (at : ℕ) where
   abbrev asking : Cluster

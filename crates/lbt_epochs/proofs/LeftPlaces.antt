@@ -1,6 +1,6 @@
 -- The places that are left, by the clusters at them.
 use Rattle.std.proofs.Common.{◌≡◌, ℕ, ◌<◌, ◌≤◌, Bool, true, false, not, ◌&&◌, ◌||◌, List, [], ◌∷◌, map, Some, length, get_or, ltb, eqb, refl, sym, ◌∙◌, ap, arith}
-use Rattle.std.specs.Prelude.{Contains, AllPairs, is_some, option_map}
+use Rattle.std.specs.Prelude.{Contains, AllPairs, is_some, slice_get}
 use Rattle.std.specs.List.{filter, list_any, range_with_len, IsDistinct}
 use Rattle.std.specs.declared.cmp.Ordering.{Ordering}
 use Rattle.std.specs.Ordering.{nat_cmp, on, then_cmp, flip_args, is_lt, ordering_then}
@@ -8,7 +8,7 @@ use Rattle.std.specs.Cmp.{IsTotalOrder}
 use Rattle.std.proofs.lemmas.Bool.{eq-eqb, eqb-false, ne_eqb}
 use Rattle.std.proofs.lemmas.Bool.Decides.{nat_tests}
 use Rattle.std.proofs.lemmas.Cmp.{nat_cmp_total, on_total, then_total, back_total}
-use Rattle.std.proofs.lemmas.Option.{slice_get-map, slice_get-get_or}
+use Rattle.std.proofs.lemmas.Option.{slice_get-get_or}
 use Rattle.std.proofs.lemmas.List.{get_or-map, length-map}
 use Rattle.std.proofs.lemmas.List.FromFn.{length-range_with_len, get_or-range_with_len}
 use Rattle.std.proofs.lemmas.List.Elements.{Contains-get_or}
@@ -16,12 +16,15 @@ use Rattle.std.proofs.lemmas.List.Kept.{AllPairs-filter}
 use Rattle.std.proofs.lemmas.List.Sorted.{Contains-permutation, IsPermutation-sym, sorted_far, ranks_by, length_permutation}
 use Rattle.std.proofs.lemmas.Map.Keys.{IsDistinct-IsPermutation, IsDistinct-from_apart, apart_from_distinct}
 use Rattle.stale_model.specs.declared.Cluster.{Cluster}
-use Rattle.stale_model.specs.Chains.{is_later, writes_of}
+use Rattle.stale_model.specs.Chains.{is_later}
 use Rattle.stale_model.specs.Zones.{reads_start}
-use Rattle.stale_model.specs.Orders.{StandsAt, IsWithoutRepeats}
+use Rattle.stale_model.specs.Orders.{StandsAt}
+use Rattle.stale_model.specs.Clusters.{writes_of, WriteRecordsDiffer}
+use Rattle.stale_model.proofs.Places.{contains_at, write_stands}
+use Rattle.stale_model.proofs.Sorted.{flips}
 use Rattle.lbt_epochs.specs.Lists.{Lists, left, cluster_at, no_cluster, ArePlacesBy}
 use Rattle.lbt_epochs.specs.Steps.{clusters_left, IsReady}
-use Rattle.lbt_epochs.proofs.LeftFilters.{kept_is_there, kept_passes, kept_from, mapped_from, before_mapped, filter_no_longer}
+use Rattle.lbt_epochs.proofs.Filters.{kept_is_there, kept_passes, kept_from, mapped_from, before_mapped, filter_no_longer}
 use Rattle.lbt_epochs.proofs.LatestRanked.{IsRanked}
 
 -- ---- the places of clusters
@@ -51,9 +54,6 @@ pub place_there : {clusters : List Cluster} {passes : Cluster → Bool} {order :
 place_there {clusters} {passes} {order} {places} are at l p =
     Contains-permutation _ places at are.each_once (kept_from (λ at. passes (cluster_at clusters at)) (range_with_len 0 (length clusters)) at (range_has (length clusters) at l) p)
 
-flips : (x y : ℕ) → eqb x y ≡ eqb y x
-flips x y = grind (arith, eq-eqb, eqb-false)
-
 range_rises : (n : ℕ) → AllPairs (λ x y. x < y) (range_with_len 0 n)
 range_rises n i j d l m =
     let long = length-range_with_len 0 n in
@@ -71,14 +71,14 @@ places_distinct {clusters} {passes} {order} {places} are =
     (IsDistinct-from_apart eqb all (λ i j d less within. ne_eqb (get_or all i d) (get_or all j d) (λ e. let r = rise i j d less within in omega arith)))
 
 -- the write at a place
-write_stands : (clusters : List Cluster) (at : ℕ) → at < length clusters → StandsAt (writes_of clusters) at (cluster_at clusters at).write
-write_stands clusters at l = slice_get-map (λ (c : Cluster). c.write) clusters at ∙ ap (option_map (λ (c : Cluster). c.write)) (slice_get-get_or clusters at no_cluster l)
+write_at : (clusters : List Cluster) (at : ℕ) → at < length clusters → StandsAt (writes_of clusters) at (cluster_at clusters at).write
+write_at clusters at l = write_stands clusters at (cluster_at clusters at) (slice_get-get_or clusters at no_cluster l)
 
 -- clusters of one write stand at one place
-pub writes_tell : (clusters : List Cluster) → IsWithoutRepeats (writes_of clusters) → (i j : ℕ) → i < length clusters → j < length clusters
+pub writes_tell : (clusters : List Cluster) → WriteRecordsDiffer clusters → (i j : ℕ) → i < length clusters → j < length clusters
     → (cluster_at clusters i).write ≡ (cluster_at clusters j).write → i ≡ j
 writes_tell clusters differ i j l m e =
-    differ i j (cluster_at clusters i).write (write_stands clusters i l) (write_stands clusters j m ∙ ap Some (sym e))
+    differ i j (cluster_at clusters i).write (write_at clusters i l) (write_at clusters j m ∙ ap Some (sym e))
 
 -- ---- the places in order
 
@@ -93,7 +93,7 @@ later_nat : (s t w v : ℕ) → is_lt (ordering_then (nat_cmp s t) (nat_cmp v w)
 later_nat s t w v h n = grind (arith, nat_tests)
 
 -- in this order each is later than those after it
-places_ranked : (start : Cluster → ℕ) (clusters : List Cluster) (passes : Cluster → Bool) (places : List ℕ) → IsWithoutRepeats (writes_of clusters)
+places_ranked : (start : Cluster → ℕ) (clusters : List Cluster) (passes : Cluster → Bool) (places : List ℕ) → WriteRecordsDiffer clusters
     → ArePlacesBy clusters passes (start_order start) places → AllPairs (λ i j. is_later start (cluster_at clusters i) (cluster_at clusters j) ≡ true) places
 places_ranked start clusters passes places differ are i j d less within =
     let x = get_or places i d in
@@ -122,6 +122,12 @@ is_left placed at = not (list_any (λ other. eqb other at) placed)
 module _ (clusters : List Cluster) (lists : Lists) (ready : IsReady clusters lists) where
   pub left_within : (at : ℕ) → Contains (left lists.placed lists.candidates) at → at < length clusters
   left_within at c = place_within ready.lists_are.candidates at (kept_is_there (is_left lists.placed) lists.candidates at c)
+
+  -- so is what stands in any order
+  pub stands_within : {passes : Cluster → Bool} {order : Cluster → Cluster → Ordering} {places : List ℕ} → ArePlacesBy clusters passes order places
+      → (k at : ℕ) → Some at ≡ slice_get (left lists.placed places) k → at < length clusters
+  stands_within {places = places} are k at e =
+      place_within are at (kept_is_there (is_left lists.placed) places at (contains_at (left lists.placed places) k at (sym e)))
 
   -- no more are left than there are clusters
   pub left_no_more : length (left lists.placed lists.candidates) ≤ length clusters

@@ -6,21 +6,21 @@ use Rattle.std.proofs.lemmas.Bool.{eq-eqb, ne_eqb, cases_eq}
 use Rattle.std.proofs.lemmas.List.Elements.{All-head, All-tail}
 use Rattle.std.proofs.lemmas.List.Folds.{list_any-append}
 use Rattle.stale_model.specs.declared.Cluster.{Cluster}
-use Rattle.stale_model.specs.Chains.{without, writes_of}
-use Rattle.stale_model.specs.Orders.{IsWithoutRepeats}
+use Rattle.stale_model.specs.Chains.{without}
+use Rattle.stale_model.specs.Clusters.{WriteRecordsDiffer}
 use Rattle.lbt_epochs.specs.Lists.{Lists, with_placed, left, cluster_at}
 use Rattle.lbt_epochs.specs.Steps.{clusters_left, IsReady}
-use Rattle.lbt_epochs.proofs.LeftFilters.{filter_within, filter_twice, filter_mapped}
+use Rattle.lbt_epochs.proofs.Filters.{filter_within, filter_twice, filter_mapped}
 use Rattle.lbt_epochs.proofs.LeftPlaces.{writes_tell, left_within, is_left}
 
-same_test : (clusters : List Cluster) → IsWithoutRepeats (writes_of clusters) → (i j : ℕ) → i < length clusters → j < length clusters
+same_test : (clusters : List Cluster) → WriteRecordsDiffer clusters → (i j : ℕ) → i < length clusters → j < length clusters
     → eqb (cluster_at clusters i).write (cluster_at clusters j).write ≡ eqb i j
 same_test clusters differ i j l m = elim (cases_eq i j) [
   | inl e ↦ eq-eqb _ _ (ap (λ (at : ℕ). (cluster_at clusters at).write) e) ∙ sym (eq-eqb i j e)
   | inr n ↦ ne_eqb _ _ (λ e. n (writes_tell clusters differ i j l m e)) ∙ sym (ne_eqb i j n)
 ]
 
-same_any : (clusters : List Cluster) → IsWithoutRepeats (writes_of clusters) → (places : List ℕ) (at : ℕ) → All (λ place. place < length clusters) places → at < length clusters
+same_any : (clusters : List Cluster) → WriteRecordsDiffer clusters → (places : List ℕ) (at : ℕ) → All (λ place. place < length clusters) places → at < length clusters
     → list_any (λ x. eqb x.write (cluster_at clusters at).write) (map (cluster_at clusters) places) ≡ list_any (λ other. eqb other at) places
 same_any clusters differ [] at within l = refl
 same_any clusters differ (p ∷ ps) at within l =

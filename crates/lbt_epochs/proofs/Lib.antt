@@ -1,32 +1,39 @@
-pub mod ListedDemands
-pub mod ListedParts
-pub mod ListedChains
-pub mod ListedEpochs
--- Lemmas of chains, rounds and epochs.
-pub mod ChainParts
-pub mod ChainDemands
+-- Lists of clusters and of places, and parts of them.
+pub mod Filters
+pub mod Parts
+-- What a cluster asks of the rest.
+pub mod LatestRanked
+pub mod Demands
+-- What chains, rounds and epochs give.
 pub mod ChainForced
-pub mod FuelRounds
+pub mod EnoughRoom
+pub mod Removed
 pub mod RefutedRounds
 pub mod RefutedClusters
 pub mod RefutedAnswers
-pub mod LinksChain
+pub mod RefutedListings
+pub mod ListedParts
+pub mod ListedChains
+pub mod ListedEpochs
+pub mod AnswersThere
+-- Places that are linked, and the three orders of them.
 pub mod LinksHas
-pub mod LinksMade
+pub mod LinksChain
 pub mod LinksRing
+pub mod LinksMade
 pub mod ListsKept
-pub mod Sorted
+pub mod TotalOrders
+pub mod NumberedPlaces
 pub mod SortedPlaces
-pub mod LeftFilters
-pub mod LatestRanked
+-- The clusters at places that are left.
 pub mod LeftPlaces
 pub mod LeftDemands
 pub mod LeftWithout
-pub mod TwoChains
-pub mod TwoWrites
-pub mod TwoTries
-pub mod TwoRounds
-pub mod TwoRooms
-pub mod TwoRoundsGo
-pub mod TwoEpochs
-pub mod TwoAnswers
+-- Chains, rounds and epochs as they go.
+pub mod ChainSoFar
+pub mod WritesOfPlaces
+pub mod CandidateTried
+pub mod RoundSoFar
+pub mod RoundsSoFar
+pub mod EpochsSoFar
+pub mod FirstCandidates

@@ -3,21 +3,17 @@ use Rattle.std.proofs.Common.{◌≡◌, ℕ, zero, suc, ◌+◌, ◌<◌, true,
 use Rattle.std.specs.Prelude.{◌==◌, slice_get, slice_set, Contains, nat_lt}
 use Rattle.std.proofs.lemmas.Bool.{cases_eq, cases_Bool, eq-eqb, ne_eqb, lt-ltb, le-ltb}
 use Rattle.std.proofs.lemmas.List.{set-get_or, length-set, get_or_past}
-use Rattle.std.proofs.lemmas.List.Folds.{list_any_at}
 use Rattle.std.proofs.lemmas.Option.{slice_get_cases, same_Some, none-some, get_or_from_slice_get, slice_get_within}
 use Rattle.stale_model.specs.Orders.{StandsAt}
 use Rattle.lbt_epochs.specs.Lists.{left}
 use Rattle.lbt_epochs.specs.Links.{Links, after, before, IsTied, unlinked, relinked, place_after, has, without, AreApart, IsChain, IsRing, unlinked_all, AreTakenFrom, AreLeft}
-use Rattle.lbt_epochs.proofs.Sorted.{filter_all}
+use Rattle.model_laws.proofs.Tests.{contains_has}
+use Rattle.lbt_epochs.proofs.Filters.{filter_all}
 use Rattle.lbt_epochs.proofs.LinksHas.{without_lacked, has_without, without_differs, has_from_without, AreApart-without, length-without}
 use Rattle.lbt_epochs.proofs.LinksChain.{tied_other, before_apart, after_apart, unlinked_chain, tied_both, relinked-unlinked, same_links}
 
--- a place that a list contains, it has
-pub has_from_Contains : (xs : List ℕ) (x : ℕ) → Contains xs x → has xs x ≡ true
-has_from_Contains xs x (k, within, here) = list_any_at (λ other. other == x) xs k x within (eq-eqb _ _ here)
-
 pub has_from_StandsAt : (xs : List ℕ) (k x : ℕ) → StandsAt xs k x → has xs x ≡ true
-has_from_StandsAt xs k x here = has_from_Contains xs x (k, slice_get_within xs k x here, get_or_from_slice_get xs k x x here)
+has_from_StandsAt xs k x here = contains_has xs x (k, slice_get_within xs k x here, get_or_from_slice_get xs k x x here)
 
 -- where none is placed all are left
 pub left-nil : (xs : List ℕ) → left [] xs ≡ xs

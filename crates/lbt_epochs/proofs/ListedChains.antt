@@ -6,10 +6,11 @@ use Rattle.std.proofs.lemmas.List.Sorted.{IsPermutation-refl, IsPermutation-cons
 use Rattle.std.proofs.lemmas.List.{append_assoc, reverse-append}
 use Rattle.stale_model.specs.declared.Cluster.{Cluster}
 use Rattle.stale_model.specs.Chains.{without, Demand, demand, nothing, one, impossible, Chain, ends, fails, cut, chain_by, followed_by, chain}
-use Rattle.stale_model.specs.Clusters.{writes_of}
-use Rattle.stale_model.specs.Orders.{IsWithoutRepeats}
+use Rattle.stale_model.specs.Clusters.{writes_of, WriteRecordsDiffer}
 use Rattle.stale_model.proofs.Sorted.{first_or_later, no_repeats_tail, permuted_no_repeats}
-use Rattle.lbt_epochs.proofs.ListedDemands.{MayStandBefore, AsksOne, asks_nothing, asks_one, differs, of_list}
+use Rattle.lbt_epochs.proofs.Filters.{kept_is_there}
+use Rattle.lbt_epochs.proofs.Parts.{is_other}
+use Rattle.lbt_epochs.proofs.Demands.{MayStandBefore, AsksOne, asks_nothing, asks_one}
 use Rattle.lbt_epochs.proofs.ListedParts.{one_and_rest, without_in_turn, without_none}
 
 -- each of these may stand anywhere before each of those
@@ -59,7 +60,7 @@ module _ (d : ℕ) where
   pub reverse_first : (x : Cluster) (tail listed : List Cluster) → reverse (x ∷ tail) ++ listed ≡ reverse tail ++ (x ∷ listed)
   reverse_first x tail listed = rw (reverse-append (x ∷ []) tail) (append_assoc (reverse tail) (x ∷ []) listed)
 
-  goes_on : (c x : Cluster) (rest listed chain : List Cluster) → IsWithoutRepeats (writes_of rest) → Contains rest x
+  goes_on : (c x : Cluster) (rest listed chain : List Cluster) → WriteRecordsDiffer rest → Contains rest x
       → IsListedBy d x (without rest (x ∷ [])) (c ∷ listed) chain → IsListedBy d c rest listed (c ∷ chain)
   goes_on c x rest listed chain once there by =
       let tail = by.tail in
@@ -74,18 +75,18 @@ module _ (d : ℕ) where
             (IsPermutation-trans rest (x ∷ without rest (x ∷ [])) (chain ++ without rest chain) (one_and_rest x rest once there) (rw (by.begins, turn) (rw by.begins at by.parts)));
       }
 
-  pub rest_once : (x : Cluster) (rest : List Cluster) → IsWithoutRepeats (writes_of rest) → Contains rest x → IsWithoutRepeats (writes_of (without rest (x ∷ [])))
+  pub rest_once : (x : Cluster) (rest : List Cluster) → WriteRecordsDiffer rest → Contains rest x → WriteRecordsDiffer (without rest (x ∷ []))
   rest_once x rest once there =
       no_repeats_tail x.write (writes_of (without rest (x ∷ []))) (permuted_no_repeats (λ c. c.write) rest (x ∷ without rest (x ∷ [])) (one_and_rest x rest once there) once)
 
   front_of_rest : (c x : Cluster) (rest listed : List Cluster) → AsksOne d c rest x → AllBefore d rest listed → AllBefore d (without rest (x ∷ [])) (c ∷ listed)
   front_of_rest c x rest listed asks front =
       before_one_more d c (without rest (x ∷ [])) listed
-      (λ i there. record { hard = asks.hard i (of_list (differs x) rest i there); soft = asks.soft i there })
-      (λ i j in_rest in_listed. front i j (of_list (differs x) rest i in_rest) in_listed)
+      (λ i there. record { hard = asks.hard i (kept_is_there (is_other x) rest i there); soft = asks.soft i there })
+      (λ i j in_rest in_listed. front i j (kept_is_there (is_other x) rest i in_rest) in_listed)
 
   next_of : (c x : Cluster) (rest listed : List Cluster) → AsksOne d c rest x → AllBefore d rest listed → MayBeNext d x (c ∷ listed)
-  next_of c x rest listed asks front = next_by d c x listed (asks.hard x asks.there) (λ l there. front x l asks.there there)
+  next_of c x rest listed asks front = next_by d c x listed (asks.hard x asks.late.there) (λ l there. front x l asks.late.there there)
 
   short_by : (q : Demand) (c : Cluster) (rest listed chain : List Cluster) → demand d c rest ≡ q → chain_by c q (λ x. cut) ≡ ends chain
       → MayBeNext d c listed → MayStand d listed → AllBefore d rest listed → IsListedBy d c rest listed chain
@@ -95,22 +96,22 @@ module _ (d : ℕ) where
 
   -- a chain that ends is listed, where it has this room
   abbrev ListsChains : ℕ → Type 0
-  ListsChains room = (c : Cluster) (rest listed cs : List Cluster) → IsWithoutRepeats (writes_of rest) → MayBeNext d c listed → MayStand d listed
+  ListsChains room = (c : Cluster) (rest listed cs : List Cluster) → WriteRecordsDiffer rest → MayBeNext d c listed → MayStand d listed
       → AllBefore d rest listed → chain d room c rest ≡ ends cs → IsListedBy d c rest listed cs
 
-  more_by : (room : ℕ) → ListsChains room → (x : Cluster) (r : Chain) (c : Cluster) (rest listed cs : List Cluster) → IsWithoutRepeats (writes_of rest)
+  more_by : (room : ℕ) → ListsChains room → (x : Cluster) (r : Chain) (c : Cluster) (rest listed cs : List Cluster) → WriteRecordsDiffer rest
       → demand d c rest ≡ one x → chain d room x (without rest (x ∷ [])) ≡ r → followed_by c r ≡ ends cs
       → MayBeNext d c listed → MayStand d listed → AllBefore d rest listed → IsListedBy d c rest listed cs
   more_by room further x (ends tail) c rest listed cs once e g f next stand front =
       let same : c ∷ tail ≡ cs = cc in
       let asks = asks_one d c rest x e in
-      let by = further x (without rest (x ∷ [])) (c ∷ listed) tail (rest_once x rest once asks.there) (next_of c x rest listed asks front) (next, stand)
+      let by = further x (without rest (x ∷ [])) (c ∷ listed) tail (rest_once x rest once asks.late.there) (next_of c x rest listed asks front) (next, stand)
       (front_of_rest c x rest listed asks front) g in
-      rw same at (goes_on c x rest listed tail once asks.there by)
+      rw same at (goes_on c x rest listed tail once asks.late.there by)
   more_by room further x (fails tail end) c rest listed cs once e g f next stand front = cc
   more_by room further x cut c rest listed cs once e g f next stand front = cc
 
-  long_by : (room : ℕ) → ListsChains room → (q : Demand) (c : Cluster) (rest listed cs : List Cluster) → IsWithoutRepeats (writes_of rest) → demand d c rest ≡ q
+  long_by : (room : ℕ) → ListsChains room → (q : Demand) (c : Cluster) (rest listed cs : List Cluster) → WriteRecordsDiffer rest → demand d c rest ≡ q
       → chain_by c q (λ x. followed_by c (chain d room x (without rest (x ∷ [])))) ≡ ends cs
       → MayBeNext d c listed → MayStand d listed → AllBefore d rest listed → IsListedBy d c rest listed cs
   long_by room further nothing c rest listed cs once e f next stand front = let same : c ∷ [] ≡ cs = cc in rw same at (ended c rest listed e next stand front)

@@ -1,61 +1,24 @@
 -- The epochs that end with a list of writes end with a listing.
 use Rattle.std.proofs.Common.{◌≡◌, ℕ, zero, suc, ◌+◌, ◌-◌, ◌^◌, ◌<◌, ◌≤◌, List, [], ◌∷◌, ◌++◌, length, reverse, refl, sym, ◌∙◌, ap, arith}
-use Rattle.std.specs.Prelude.{Contains}
+use Rattle.std.specs.Prelude.{Contains, Some}
 use Rattle.std.specs.List.Sorted.{IsPermutation}
 use Rattle.std.proofs.lemmas.List.{append_assoc, append-nil, length-append}
 use Rattle.std.proofs.lemmas.List.Sorted.{IsPermutation-refl, IsPermutation-sym, IsPermutation-trans, IsPermutation-append_left, IsPermutation-append_comm, IsPermutation-append, IsPermutation-reverse, Contains-permutation, length_permutation}
 use Rattle.stale_model.specs.declared.Cluster.{Cluster}
 use Rattle.stale_model.specs.declared.Two.TheVariants.{Yes}
 use Rattle.stale_model.specs.Chains.{without, Chain, ends, fails, cut, chain, Round, removes, repeats, refutes, join, round, or_later, rounds, epoch_by, epochs}
-use Rattle.stale_model.specs.Clusters.{writes_of}
-use Rattle.stale_model.specs.Orders.{StandsAt, IsWithoutRepeats, ListsEachOnce}
+use Rattle.stale_model.specs.Clusters.{writes_of, WriteRecordsDiffer}
+use Rattle.stale_model.specs.Orders.{StandsAt, ListsEachOnce}
 use Rattle.stale_model.specs.Listings.{IsListing}
 use Rattle.stale_model.specs.Zones.{reads_start}
 use Rattle.lbt_epochs.specs.TwoLaws.{ListingsAreAnswered}
 use Rattle.stale_model.proofs.Places.{contains_at}
 use Rattle.stale_model.proofs.Sorted.{contains_later, permuted_no_repeats, no_repeats_tail, no_repeats_from_map}
-use Rattle.lbt_epochs.proofs.ListedDemands.{differs, of_list}
+use Rattle.lbt_epochs.proofs.Filters.{kept_is_there}
+use Rattle.lbt_epochs.proofs.Parts.{is_other}
+use Rattle.lbt_epochs.proofs.Removed.{Ends, removed_by}
 use Rattle.lbt_epochs.proofs.ListedParts.{one_and_rest, without_in_turn}
 use Rattle.lbt_epochs.proofs.ListedChains.{AllBefore, MayBeNext, MayStand, chain_is_listed, reverse_first, rest_once}
-
--- the chain of one of the candidates ends with these
-record Ends (d : ℕ) (left candidates cs : List Cluster) : Type 0 where
-  room : ℕ
-  x : Cluster
-  there : Contains candidates x
-  end : chain d room x (without left (x ∷ [])) ≡ ends cs
-
-later_ends : (d : ℕ) (left candidates cs : List Cluster) (c : Cluster) → Ends d left candidates cs → Ends d left (c ∷ candidates) cs
-later_ends d left candidates cs c e = record { room = e.room; x = e.x; there = contains_later c e.x candidates e.there; end = e.end }
-
-first_ends : (d room : ℕ) (left candidates cs : List Cluster) (c : Cluster) → chain d room c (without left (c ∷ [])) ≡ ends cs → Ends d left (c ∷ candidates) cs
-first_ends d room left candidates cs c e = record { room = room; x = c; there = (zero, omega arith, refl); end = e }
-
-joined : (d room : ℕ) (left candidates cs : List Cluster) (c : Cluster) (r : Chain) (later : Round) → chain d room c (without left (c ∷ [])) ≡ r
-    → (later ≡ removes cs → Ends d left candidates cs) → join r later ≡ removes cs → Ends d left (c ∷ candidates) cs
-joined d room left candidates cs c (ends these) later e h f = let same : these ≡ cs = cc in first_ends d room left candidates cs c (e ∙ ap ends same)
-joined d room left candidates cs c cut (removes these) e h f = later_ends d left candidates cs c (h f)
-joined d room left candidates cs c cut repeats e h f = cc
-joined d room left candidates cs c cut (refutes tries) e h f = cc
-joined d room left candidates cs c (fails these end) (removes others) e h f = later_ends d left candidates cs c (h f)
-joined d room left candidates cs c (fails these end) repeats e h f = cc
-joined d room left candidates cs c (fails these end) (refutes tries) e h f = cc
-
-round_ends : (d room : ℕ) (left candidates cs : List Cluster) → round d room left candidates ≡ removes cs → Ends d left candidates cs
-round_ends d room left [] cs e = cc
-round_ends d room left (c ∷ candidates) cs e =
-    joined d room left candidates cs c (chain d room c (without left (c ∷ []))) (round d room left candidates) refl (round_ends d room left candidates cs) e
-
-or_ends : (d room : ℕ) (left cs : List Cluster) (now later : Round) → round d room left left ≡ now → (later ≡ removes cs → Ends d left left cs) → or_later now later ≡ removes cs
-    → Ends d left left cs
-or_ends d room left cs repeats later e h f = h f
-or_ends d room left cs (removes these) later e h f = round_ends d room left left cs (e ∙ f)
-or_ends d room left cs (refutes tries) later e h f = cc
-
-rounds_end : (d more r : ℕ) (left cs : List Cluster) → rounds d more r left ≡ removes cs → Ends d left left cs
-rounds_end d zero r left cs e = cc
-rounds_end d (suc more) r left cs e =
-    or_ends d (2 ^ r - 1) left cs (round d (2 ^ r - 1) left left) (rounds d more (r + 1) left) refl (rounds_end d more (r + 1) left cs) e
 
 -- ---- one epoch
 
@@ -71,10 +34,10 @@ record IsEpoch (d : ℕ) (left listed cs : List Cluster) : Type 0 where
   stand : MayStand d (reverse cs ++ listed)
   front : AllBefore d (without left cs) (reverse cs ++ listed)
   parts : IsPermutation (left ++ listed) (without left cs ++ (reverse cs ++ listed))
-  once : IsWithoutRepeats (writes_of (without left cs))
+  once : WriteRecordsDiffer (without left cs)
   fewer : length (without left cs) < length left
 
-no_repeats_drop : (cs rest : List Cluster) → IsWithoutRepeats (writes_of (cs ++ rest)) → IsWithoutRepeats (writes_of rest)
+no_repeats_drop : (cs rest : List Cluster) → WriteRecordsDiffer (cs ++ rest) → WriteRecordsDiffer rest
 no_repeats_drop [] rest once = once
 no_repeats_drop (c ∷ cs) rest once = no_repeats_drop cs rest (no_repeats_tail c.write (writes_of (cs ++ rest)) once)
 
@@ -96,13 +59,13 @@ fewer_left left cs tail rest x begins p =
     let some : length cs ≡ suc (length tail) = ap length begins in
     omega arith
 
-epoch_of : (d : ℕ) (left listed cs : List Cluster) → Ends d left left cs → IsWithoutRepeats (writes_of left) → MayStand d listed → AllBefore d left listed → IsEpoch d left listed cs
+epoch_of : (d : ℕ) (left listed cs : List Cluster) → Ends d left left cs → WriteRecordsDiffer left → MayStand d listed → AllBefore d left listed → IsEpoch d left listed cs
 epoch_of d left listed cs e once stand front =
     let x = e.x in
     let rest = without left (x ∷ []) in
     let out = one_and_rest x left once e.there in
     let by = chain_is_listed d e.room x rest listed cs (rest_once d x left once e.there) (may_be_next d left listed x front e.there) stand
-    (λ i j in_rest in_listed. front i j (of_list (differs x) left i in_rest) in_listed) e.end in
+    (λ i j in_rest in_listed. front i j (kept_is_there (is_other x) left i in_rest) in_listed) e.end in
     let tail = by.tail in
     let same : without left cs ≡ without rest tail = ap (without left) by.begins ∙ without_in_turn left x tail in
     let placed : reverse cs ++ listed ≡ reverse tail ++ (x ∷ listed) = ap (λ these. reverse these ++ listed) by.begins ∙ reverse_first d x tail listed in
@@ -124,19 +87,19 @@ pub record IsListed (d : ℕ) (left listed : List Cluster) (writes : List ℕ) :
   pub parts : IsPermutation (left ++ listed) final
   pub writes_are : writes ≡ writes_of final
 
-all_listed : (d : ℕ) (listed : List Cluster) (writes : List ℕ) → MayStand d listed → Yes (writes_of listed) ≡ Yes writes → IsListed d [] listed writes
+all_listed : (d : ℕ) (listed : List Cluster) (writes : List ℕ) → MayStand d listed → Some (Yes (writes_of listed)) ≡ Some (Yes writes) → IsListed d [] listed writes
 all_listed d listed writes stand e = let same : writes_of listed ≡ writes = cc in record { final = listed; stand = stand; parts = IsPermutation-refl listed; writes_are = sym same }
 
 -- epochs from here on list what is left
 abbrev ListsEpochs : ℕ → ℕ → Type 0
-ListsEpochs d more = (left listed : List Cluster) (writes : List ℕ) → length left ≤ more → IsWithoutRepeats (writes_of left) → MayStand d listed → AllBefore d left listed
-    → epochs d more left listed ≡ Yes writes → IsListed d left listed writes
+ListsEpochs d more = (left listed : List Cluster) (writes : List ℕ) → length left ≤ more → WriteRecordsDiffer left → MayStand d listed → AllBefore d left listed
+    → epochs d more left listed ≡ Some (Yes writes) → IsListed d left listed writes
 
-epoch_listed : (d more : ℕ) → ListsEpochs d more → (q : Round) (left listed : List Cluster) (writes : List ℕ) → length left ≤ suc more → IsWithoutRepeats (writes_of left)
+epoch_listed : (d more : ℕ) → ListsEpochs d more → (q : Round) (left listed : List Cluster) (writes : List ℕ) → length left ≤ suc more → WriteRecordsDiffer left
     → MayStand d listed → AllBefore d left listed → rounds d (length left + 1) 0 left ≡ q
-    → epoch_by left q (λ cs. epochs d more (without left cs) (reverse cs ++ listed)) ≡ Yes writes → IsListed d left listed writes
+    → epoch_by left q (λ cs. epochs d more (without left cs) (reverse cs ++ listed)) ≡ Some (Yes writes) → IsListed d left listed writes
 epoch_listed d more further (removes cs) left listed writes low once stand front e f =
-    let epoch = epoch_of d left listed cs (rounds_end d (length left + 1) 0 left cs e) once stand front in
+    let epoch = epoch_of d left listed cs (removed_by d (length left + 1) 0 left cs e) once stand front in
     let fewer = epoch.fewer in
     let by = further (without left cs) (reverse cs ++ listed) writes (omega arith) epoch.once epoch.stand epoch.front f in
     record {
@@ -186,14 +149,14 @@ stands_soft d (x ∷ xs) stand (suc a) zero i j at_a at_b low = absurd (omega ar
 stands_soft d (x ∷ xs) stand (suc a) (suc b) i j at_a at_b low = stands_soft d xs stand.1 a b i j at_a at_b (omega arith)
 
 -- each once, where the writes differ
-each_once : (clusters listing : List Cluster) → IsWithoutRepeats (writes_of clusters) → IsPermutation clusters listing → ListsEachOnce clusters listing
+each_once : (clusters listing : List Cluster) → WriteRecordsDiffer clusters → IsPermutation clusters listing → ListsEachOnce clusters listing
 each_once clusters listing once p = record {
   known = λ x there. Contains-permutation listing clusters x (IsPermutation-sym clusters listing p) there;
   whole = λ x there. Contains-permutation clusters listing x p there;
   once = no_repeats_from_map (λ c. c.write) listing (permuted_no_repeats (λ c. c.write) clusters listing p once);
 }
 
-pub is_listing : (d : ℕ) (clusters listing : List Cluster) → IsWithoutRepeats (writes_of clusters) → IsPermutation clusters listing → MayStand d listing → IsListing d clusters listing
+pub is_listing : (d : ℕ) (clusters listing : List Cluster) → WriteRecordsDiffer clusters → IsPermutation clusters listing → MayStand d listing → IsListing d clusters listing
 is_listing d clusters listing once p stand = record {
   each_once = each_once clusters listing once p;
   hard = λ a b i j at_a at_b low. stands_hard d listing stand a b i j at_a at_b low;
@@ -207,7 +170,7 @@ pub listings_are_answered : ListingsAreAnswered
 listings_are_answered d clusters writes once a =
     let candidates = a.candidates in
     let once_more = permuted_no_repeats (λ c. c.write) clusters candidates a.order.each_once once in
-    let by = epochs_listed d (length candidates) candidates [] writes (omega arith) once_more tt (nothing_listed d candidates) (sym a.answer) in
+    let by = epochs_listed d (length candidates) candidates [] writes (omega arith) once_more tt (nothing_listed d candidates) a.answer in
     let parts : IsPermutation clusters by.final =
     IsPermutation-trans clusters candidates by.final a.order.each_once (rw (append-nil candidates) at by.parts) in
     record { listing = by.final; is = is_listing d clusters by.final once parts by.stand; writes_are = sym by.writes_are }

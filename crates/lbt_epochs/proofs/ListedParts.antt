@@ -7,9 +7,10 @@ use Rattle.std.proofs.lemmas.List.Sorted.{IsPermutation-filter_both}
 use Rattle.std.proofs.lemmas.Bool.{eqb-true, eq-eqb}
 use Rattle.stale_model.specs.declared.Cluster.{Cluster}
 use Rattle.stale_model.specs.Chains.{without}
-use Rattle.stale_model.specs.Clusters.{writes_of}
-use Rattle.stale_model.specs.Orders.{IsWithoutRepeats}
+use Rattle.stale_model.specs.Clusters.{writes_of, WriteRecordsDiffer}
+use Rattle.stale_model.proofs.Places.{write_there}
 use Rattle.stale_model.proofs.Sorted.{first_or_later, contains_later, no_repeats_tail, not_in_tail}
+use Rattle.lbt_epochs.proofs.Parts.{is_other}
 
 filter_twice_by : (a b : Bool) (c : Cluster) (r t : List Cluster) (q : Cluster → Bool) → q c ≡ not b → r ≡ filter q t
     → cond (not (a || b)) (c ∷ r) r ≡ filter q (cond (not (a || false)) (c ∷ t) t)
@@ -33,32 +34,16 @@ kept_by : (x c : Cluster) (b : Bool) → eqb x.write c.write ≡ b → (x.write 
 kept_by x c true e apart = absurd (apart (eqb-true x.write c.write e))
 kept_by x c false e apart = e
 
--- whether c is the same cluster as x
-abbrev pub same_write : Cluster → Cluster → Bool
-same_write x c = list_any (λ y. eqb y.write c.write) (x ∷ [])
-
-or_false : (b : Bool) → (b || false) ≡ b
-or_false true = refl
-or_false false = refl
-
 -- where none has its write, none is taken
-none_same : (x : Cluster) (cs : List Cluster) → (Contains (writes_of cs) x.write → ⊥) → filter (same_write x) cs ≡ []
+none_same : (x : Cluster) (cs : List Cluster) → (Contains (writes_of cs) x.write → ⊥) → filter (λ c. list_any (λ y. eqb y.write c.write) (x ∷ [])) cs ≡ []
 none_same x [] apart = refl
 none_same x (c ∷ cs) apart =
     let first : x.write ≡ c.write → ⊥ = λ e. apart (zero, omega arith, sym e) in
     let no : eqb x.write c.write ≡ false = kept_by x c (eqb x.write c.write) refl first in
     rw no (none_same x cs (λ there. apart (contains_later c.write x.write (writes_of cs) there)))
 
--- the write of a cluster of the list is a write of the list
-pub write_there : (cs : List Cluster) (x : Cluster) → Contains cs x → Contains (writes_of cs) x.write
-write_there [] x there = absurd (let l = there.1 in omega arith)
-write_there (c ∷ cs) x there = elim (first_or_later c x cs there) [
-  | inl e ↦ (zero, omega arith, ap (λ y. y.write) e)
-  | inr later ↦ contains_later c.write x.write (writes_of cs) (write_there cs x later)
-]
-
 -- only x is taken
-one_same : (x : Cluster) (cs : List Cluster) → IsWithoutRepeats (writes_of cs) → Contains cs x → filter (same_write x) cs ≡ x ∷ []
+one_same : (x : Cluster) (cs : List Cluster) → WriteRecordsDiffer cs → Contains cs x → filter (λ c. list_any (λ y. eqb y.write c.write) (x ∷ [])) cs ≡ x ∷ []
 one_same x [] once there = absurd (let l = there.1 in omega arith)
 one_same x (c ∷ cs) once there = elim (first_or_later c x cs there) [
   | inl e ↦
@@ -73,6 +58,6 @@ one_same x (c ∷ cs) once there = elim (first_or_later c x cs there) [
 ]
 
 -- a list is x and what is left without x
-pub one_and_rest : (x : Cluster) (cs : List Cluster) → IsWithoutRepeats (writes_of cs) → Contains cs x → IsPermutation cs (x ∷ without cs (x ∷ []))
+pub one_and_rest : (x : Cluster) (cs : List Cluster) → WriteRecordsDiffer cs → Contains cs x → IsPermutation cs (x ∷ without cs (x ∷ []))
 one_and_rest x cs once there =
-    rw (one_same x cs once there) at (IsPermutation-filter_both (same_write x) (λ c. not (same_write x c)) (λ c. refl) cs)
+    rw (one_same x cs once there) at (IsPermutation-filter_both (λ c. list_any (λ y. eqb y.write c.write) (x ∷ [])) (is_other x) (λ c. refl) cs)

@@ -10,11 +10,12 @@ use Rattle.stale_model.specs.Operations.{IsWrite}
 use Rattle.stale_model.specs.Clusters.{writes_of}
 use Rattle.stale_model.specs.Refutations.{IsOfRecord, RefutationHolds, TryHolds}
 use Rattle.stale_model.proofs.Places.{contains_at}
-use Rattle.model_laws.proofs.ClustersOne.{cluster_writes_differ}
+use Rattle.stale_model.proofs.ClustersOne.{cluster_writes_differ}
 use Rattle.stale_model.proofs.Sorted.{permuted_no_repeats}
 use Rattle.lbt_epochs.specs.TwoLaws.{RefutationsAreAnswered}
 use Rattle.lbt_epochs.proofs.RefutedRounds.{IsRefuted, epochs_are_refuted}
-use Rattle.lbt_epochs.proofs.RefutedClusters.{AreOfWrites, cluster_at_write, member_of_write, writes_once, writes_differ, try_holds}
+use Rattle.lbt_epochs.proofs.Parts.{writes_differ}
+use Rattle.lbt_epochs.proofs.RefutedClusters.{AreOfWrites, cluster_at_write, member_of_write, writes_once, try_holds}
 
 -- a write of such clusters is the record of a write
 stuck_are_writes : (ops : List Op) (left : List Cluster) → AreOfWrites ops left → (c : ℕ) → Contains (writes_of left) c
@@ -53,4 +54,4 @@ refutations_are_answered ops d clusters refutation names clustered answer =
     let back = IsPermutation-sym clusters candidates permuted in
     let of_writes : AreOfWrites ops candidates = λ c there. clustered.each c (Contains-permutation candidates clusters c back there) in
     refuted_holds ops d candidates refutation of_writes
-    (epochs_are_refuted d (length candidates) candidates [] refutation (writes_differ candidates once) (sym answer.answer))
+    (epochs_are_refuted d (length candidates) candidates [] refutation (writes_differ candidates once) answer.answer)

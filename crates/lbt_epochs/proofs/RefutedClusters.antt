@@ -11,12 +11,13 @@ use Rattle.stale_model.specs.declared.End.TheVariants.{Hard, Soft}
 use Rattle.stale_model.specs.declared.Try.{Try}
 use Rattle.stale_model.specs.Operations.{IsRead, earliest_start}
 use Rattle.stale_model.specs.Precedence.{moved, Precedes}
-use Rattle.stale_model.specs.Orders.{StandsAt, IsWithoutRepeats}
-use Rattle.stale_model.specs.Clusters.{IsReadOf, AreReadsOf, IsClusterOf, writes_of}
+use Rattle.stale_model.specs.Orders.{StandsAt}
+use Rattle.stale_model.specs.Clusters.{IsReadOf, AreReadsOf, IsClusterOf, writes_of, WriteRecordsDiffer}
 use Rattle.stale_model.specs.Zones.{reads_start}
-use Rattle.stale_model.specs.Refutations.{IsOfRecord, IsOfCluster, IsUnplaced, Forces, HardHolds, IsLateRead, SoftHolds, EndHolds, TryHolds}
-use Rattle.stale_model.proofs.Places.{something_at, same_at, contains_at, place_of}
-use Rattle.lbt_epochs.proofs.ChainParts.{Apart, IsPart, WritesStandOnce}
+use Rattle.stale_model.specs.Refutations.{IsOfRecord, IsOfCluster, IsUnplaced, Forces, PrecedesUnplaced, HardHolds, SoftHolds, EndHolds, TryHolds}
+use Rattle.stale_model.proofs.Places.{something_at, same_at, contains_at, place_of, write_stands, write_there}
+use Rattle.model_laws.proofs.Between.{last_read}
+use Rattle.lbt_epochs.proofs.Parts.{Apart, IsPart, WritesStandOnce}
 use Rattle.lbt_epochs.proofs.ChainForced.{IsHardEnd, IsSoftEnd, IsEnd, IsForcedChain}
 use Rattle.lbt_epochs.proofs.RefutedRounds.{IsForcedTry}
 
@@ -24,22 +25,15 @@ use Rattle.lbt_epochs.proofs.RefutedRounds.{IsForcedTry}
 abbrev pub AreOfWrites : List Op → List Cluster → Type 0
 AreOfWrites ops left = (c : Cluster) → Contains left c → (w : Op) × IsClusterOf ops w c
 
--- where a cluster stands its write stands
-pub write_at : (cs : List Cluster) (i : ℕ) (c : Cluster) → StandsAt cs i c → StandsAt (writes_of cs) i c.write
-write_at cs i c at = slice_get-map (λ (x : Cluster). x.write) cs i ∙ ap (λ o. option_map (λ (x : Cluster). x.write) o) at
-
 -- where a write stands its cluster stands
 pub cluster_at_write : (cs : List Cluster) (i write : ℕ) → StandsAt (writes_of cs) i write → (c : Cluster) × StandsAt cs i c × (c.write ≡ write)
 cluster_at_write cs i write at =
     let within = slice_get_within (writes_of cs) i write at in
     let long : length (writes_of cs) ≡ length cs = length-map cs (λ (x : Cluster). x.write) in
     let (c, there) = something_at cs i (omega arith) in
-    (c, there, same_at (writes_of cs) i c.write write (write_at cs i c there) at)
+    (c, there, same_at (writes_of cs) i c.write write (write_stands cs i c there) at)
 
 -- a write of the clusters is that of one of them
-pub write_of_member : (cs : List Cluster) (c : Cluster) → Contains cs c → Contains (writes_of cs) c.write
-write_of_member cs c there = let (i, at) = place_of cs c there in contains_at (writes_of cs) i c.write (write_at cs i c at)
-
 pub member_of_write : (cs : List Cluster) (write : ℕ) → Contains (writes_of cs) write → (c : Cluster) × Contains cs c × (c.write ≡ write)
 member_of_write cs write there =
     let (i, at) = place_of (writes_of cs) write there in
@@ -47,22 +41,11 @@ member_of_write cs write there =
     (c, contains_at cs i c atc, same)
 
 -- writes that differ stand once
-pub writes_once : (cs : List Cluster) → WritesStandOnce cs → IsWithoutRepeats (writes_of cs)
+pub writes_once : (cs : List Cluster) → WritesStandOnce cs → WriteRecordsDiffer cs
 writes_once cs differ i j write ati atj =
     let (c, atc, same) = cluster_at_write cs i write ati in
     let (e, ate, same2) = cluster_at_write cs j write atj in
     differ i j c e atc ate (same ∙ sym same2)
-
-pub writes_differ : (cs : List Cluster) → IsWithoutRepeats (writes_of cs) → WritesStandOnce cs
-writes_differ cs once i j x y ati atj same =
-    let there : StandsAt (writes_of cs) j x.write = rw same (write_at cs j y atj) in
-    once i j x.write (write_at cs i x ati) there
-
--- the read of a cluster that starts last, where it starts above 0
-last_read : (ops : List Op) (w : Op) (s : Option ℕ) (last : ℕ) → AreReadsOf ops w s last → 0 < unwrap_or s 0
-    → (r : Op) × IsReadOf ops w.value r × (earliest_start r ≡ unwrap_or s 0) × (r.rec ≡ last)
-last_read ops w None last reads some = absurd (omega arith)
-last_read ops w (Some s) last reads some = (reads.op, reads.member, reads.start_is, reads.last_is)
 
 -- the operation a of the cluster c finishes first
 record Finishes (ops : List Op) (c : Cluster) (a : Op) : Type 0 where
@@ -126,11 +109,11 @@ module _ (ops : List Op) (d : ℕ) (left : List Cluster) (of_writes : AreOfWrite
   -- what is apart from a chain is not placed
   is_unplaced : (cs : List Cluster) (x : Cluster) → Contains left x → Apart x cs → IsUnplaced (writes_of left) (writes_of cs) x.write
   is_unplaced cs x there free = record {
-    member = write_of_member left x there;
+    member = write_there left x there;
     unplaced = λ placed. let (c, among, same) = member_of_write cs x.write placed in free c among same;
   }
 
-  -- the ends hold
+  -- a hard end holds
   hard_holds : (rest cs : List Cluster) (c : Cluster) (p u : ℕ) → IsPart left rest → Contains left c → IsHardEnd rest cs c p u
       → HardHolds ops d (writes_of left) (writes_of cs) c.write p u
   hard_holds rest cs c p u part there h =
@@ -143,26 +126,36 @@ module _ (ops : List Op) (d : ℕ) (left : List Cluster) (of_writes : AreOfWrite
       let start = iw.start_is in
       let late = h.late.late in
       rw (h.late.p_is, h.late.u_is) (record {
-        a = a;
-        w = w;
-        a_is = fa.is;
-        of_c = fa.of_c;
-        w_is = record { there = iw.there; record_is = iw.record_is };
-        write = iw.kind;
-        unplaced = is_unplaced cs x cx h.free;
-        precedes = fa.before d w (omega arith);
+        late = record {
+          write = x.write;
+          unplaced = is_unplaced cs x cx h.free;
+          a = a;
+          b = w;
+          a_is = fa.is;
+          b_is = record { there = iw.there; record_is = iw.record_is };
+          of_c = fa.of_c;
+          of_write = record { there = iw.there; w = w; w_is = record { there = iw.there; kind = iw.kind; value_is = refl }; record_is = iw.record_is };
+          precedes = fa.before d w (omega arith);
+        };
+        itself = refl;
       })
 
-  -- the read of a late reader is late
-  late_read : (cs : List Cluster) (c x : Cluster) (a r : Op) → Finishes ops c a → StartsLast ops x r → Contains left x → Apart x cs
-      → c.f + d < reads_start x → IsLateRead ops d (writes_of left) (writes_of cs) a x.write r
-  late_read cs c x a r fa sr there free late = record {
-    of_write = sr.of_x;
-    read = sr.read;
+  -- a late reader's read is preceded
+  abbrev reader_is_late : (cs : List Cluster) (c x : Cluster) (a r : Op) → Finishes ops c a → StartsLast ops x r → Contains left x → Apart x cs
+      → c.f + d < reads_start x → PrecedesUnplaced ops d (writes_of left) (writes_of cs) c.write c.first x.last
+  reader_is_late cs c x a r fa sr there free late = record {
+    write = x.write;
     unplaced = is_unplaced cs x there free;
+    a = a;
+    b = r;
+    a_is = fa.is;
+    b_is = sr.is;
+    of_c = fa.of_c;
+    of_write = sr.of_x;
     precedes = fa.before d r (sr.after d c.f late);
   }
 
+  -- a soft end holds
   soft_holds : (rest cs : List Cluster) (c : Cluster) (p q q2 : ℕ) → IsPart left rest → Contains left c
       → IsSoftEnd d rest cs c p q q2 → SoftHolds ops d (writes_of left) (writes_of cs) c.write p q q2
   soft_holds rest cs c p q q2 part there s =
@@ -178,18 +171,10 @@ module _ (ops : List Op) (d : ℕ) (left : List Cluster) (of_writes : AreOfWrite
       let (r, sr) = starts_last ops w l.x iw (omega arith) in
       let (r2, sr2) = starts_last ops w2 l.y iw2 (omega arith) in
       rw (l.p_is, l.q_is, l.q2_is) (record {
-        a = a;
-        r = r;
-        r2 = r2;
-        a_is = fa.is;
-        of_c = fa.of_c;
-        r_is = sr.is;
-        r2_is = sr2.is;
-        write = l.x.write;
-        write2 = l.y.write;
-        two = λ same. l.differ (sym same);
-        late = late_read cs c l.x a r fa sr cx s.free late;
-        late2 = late_read cs c l.y a r2 fa sr2 cy s.free2 late2;
+        late = reader_is_late cs c l.x a r fa sr cx s.free late;
+        late2 = reader_is_late cs c l.y a r2 fa sr2 cy s.free2 late2;
+        reads = (sr.read, sr2.read);
+        apart = λ same. l.differ (sym same);
       })
 
   end_holds : (rest cs : List Cluster) (c : Cluster) (end : End) → IsPart left rest → Contains left c → IsEnd d rest cs c end
@@ -219,15 +204,15 @@ module _ (ops : List Op) (d : ℕ) (left : List Cluster) (of_writes : AreOfWrite
       let among = chain_among c rest cs end there part k in
       let long : length (writes_of cs) ≡ length cs = length-map cs (λ (x : Cluster). x.write) in
       record {
-        begins = write_at cs 0 c k.begins;
+        begins = write_stands cs 0 c k.begins;
         members = λ write m.
             let (i, at) = place_of (writes_of cs) write m in
             let (x, atx, same) = cluster_at_write cs i write at in
-            subst (λ (n : ℕ). Contains (writes_of left) n) same (write_of_member left x (among i x atx));
+            subst (λ (n : ℕ). Contains (writes_of left) n) same (write_there left x (among i x atx));
         once = writes_once cs k.once;
         forced = λ i c next atc atn. forces_by cs among k.forced i c next atc (rw add-one at atn);
         last = k.last.write;
-        last_is = rw long (write_at cs (length cs - 1) k.last k.last_is);
+        last_is = rw long (write_stands cs (length cs - 1) k.last k.last_is);
         end = end_holds rest cs k.last end part (among (length cs - 1) k.last k.last_is) k.end_is;
       }
 

@@ -1,6 +1,6 @@
 -- Where an epoch refutes what is left, each of its chains fails.
 use Rattle.std.proofs.Common.{◌≡◌, ◌⊎◌, ℕ, zero, suc, ◌+◌, ◌-◌, ◌^◌, ◌<◌, not, List, [], ◌∷◌, ◌++◌, reverse, length, refl, sym, ap, inl, inr, subst, arith}
-use Rattle.std.specs.Prelude.{◌==◌}
+use Rattle.std.specs.Prelude.{◌==◌, Option, Some, None}
 use Rattle.std.specs.List.{list_any}
 use Rattle.stale_model.specs.declared.Cluster.{Cluster}
 use Rattle.stale_model.specs.declared.End.{End}
@@ -11,9 +11,9 @@ use Rattle.stale_model.specs.declared.Two.TheVariants.{Yes, No}
 use Rattle.stale_model.specs.Orders.{StandsAt}
 use Rattle.stale_model.specs.Clusters.{writes_of}
 use Rattle.stale_model.specs.Chains.{without, Chain, ends, fails, cut, chain, Round, removes, repeats, refutes, join, round, or_later, rounds, epoch_by, epochs}
-use Rattle.lbt_epochs.proofs.ChainParts.{IsPart, WritesStandOnce, in_part, part_differs, in_without}
+use Rattle.lbt_epochs.proofs.Filters.{kept_is_there}
+use Rattle.lbt_epochs.proofs.Parts.{IsPart, WritesStandOnce, part_differs, in_without}
 use Rattle.lbt_epochs.proofs.ChainForced.{IsForcedChain, chain_is_forced}
-use Rattle.lbt_epochs.proofs.FuelRounds.{rounds_end}
 
 -- the try of a cluster is a chain that is forced from it among the others
 pub record IsForcedTry (d : ℕ) (left : List Cluster) (c : Cluster) (attempt : Try) : Type 0 where
@@ -91,7 +91,7 @@ repeats_not : (tries : List Try) → repeats ≡ refutes tries → ⊥
 repeats_not tries e = cc
 
 -- so where the rounds refute, each cluster has its try
-rounds_are_forced : (d more r : ℕ) (left : List Cluster) (tries : List Try) → rounds d more r left ≡ refutes tries → AreForcedTries d left left tries
+pub rounds_are_forced : (d more r : ℕ) (left : List Cluster) (tries : List Try) → rounds d more r left ≡ refutes tries → AreForcedTries d left left tries
 rounds_are_forced d zero r left tries e = absurd (repeats_not tries e)
 rounds_are_forced d (suc more) r left tries e =
     elim (one_refutes (round d (2 ^ r - 1) left left) (rounds d more (r + 1) left) tries e) [
@@ -108,14 +108,21 @@ pub record IsRefuted (d : ℕ) (candidates : List Cluster) (refutation : Refutat
   pub stuck_is : refutation.stuck ≡ writes_of left
   pub tries : AreForcedTries d left left refutation.tries
 
+-- nothing is no answer
+pub none_is_no_answer : (two : Two) → None ≡ Some two → ⊥
+none_is_no_answer two e = cc
+
+same_refutation : (a b : Refutation) → Some (No a) ≡ Some (No b) → a ≡ b
+same_refutation a b e = cc
+
 -- a refutation of an epoch, by what its rounds give
-by_round : (d : ℕ) (left : List Cluster) (found : Round) (go_on : List Cluster → Two) (refutation : Refutation) → 0 < length left → WritesStandOnce left
-    → rounds d (length left + 1) 0 left ≡ found → ((chain : List Cluster) → go_on chain ≡ No refutation → IsRefuted d left refutation)
-    → epoch_by left found go_on ≡ No refutation → IsRefuted d left refutation
+by_round : (d : ℕ) (left : List Cluster) (found : Round) (go_on : List Cluster → Option Two) (refutation : Refutation) → 0 < length left → WritesStandOnce left
+    → rounds d (length left + 1) 0 left ≡ found → ((chain : List Cluster) → go_on chain ≡ Some (No refutation) → IsRefuted d left refutation)
+    → epoch_by left found go_on ≡ Some (No refutation) → IsRefuted d left refutation
 by_round d left (removes chain) go_on refutation some differ is later e = later chain e
-by_round d left repeats go_on refutation some differ is later e = absurd (rounds_end d left is)
+by_round d left repeats go_on refutation some differ is later e = absurd (none_is_no_answer (No refutation) e)
 by_round d left (refutes tries) go_on refutation some differ is later e =
-    let same : record { stuck = writes_of left; tries = tries } ≡ refutation = cc in
+    let same = same_refutation (record { stuck = writes_of left; tries = tries }) refutation e in
     subst (λ (r : Refutation). IsRefuted d left r) same (record {
       left = left;
       some = some;
@@ -138,13 +145,14 @@ part_is_refuted d candidates part refutation inside r = record {
 }
 
 -- a listing is no refutation
-yes_is_not_no : (writes : List ℕ) (refutation : Refutation) → Yes writes ≡ No refutation → ⊥
+pub yes_is_not_no : (writes : List ℕ) (refutation : Refutation) → Some (Yes writes) ≡ Some (No refutation) → ⊥
 yes_is_not_no writes refutation e = cc
 
 -- a refutation that the epochs answer is that of what some epoch left
 pub epochs_are_refuted : (d more : ℕ) (left listing : List Cluster) (refutation : Refutation) → WritesStandOnce left
-    → epochs d more left listing ≡ No refutation → IsRefuted d left refutation
-epochs_are_refuted d zero left listing refutation differ e = absurd (yes_is_not_no (writes_of listing) refutation e)
+    → epochs d more left listing ≡ Some (No refutation) → IsRefuted d left refutation
+epochs_are_refuted d zero [] listing refutation differ e = absurd (yes_is_not_no (writes_of listing) refutation e)
+epochs_are_refuted d zero (c ∷ cs) listing refutation differ e = absurd (none_is_no_answer (No refutation) e)
 epochs_are_refuted d (suc more) [] listing refutation differ e = absurd (yes_is_not_no (writes_of listing) refutation e)
 epochs_are_refuted d (suc more) (c ∷ cs) listing refutation differ e =
     let left = c ∷ cs in
@@ -152,6 +160,6 @@ epochs_are_refuted d (suc more) (c ∷ cs) listing refutation differ e =
     by_round d left (rounds d (length left + 1) 0 left) go_on refutation (omega arith) differ refl
     (λ chain f.
     let passes = λ (z : Cluster). not (list_any (λ u. u.write == z.write) chain) in
-    part_is_refuted d left (without left chain) refutation (λ x there. (in_part passes left x there).0)
+    part_is_refuted d left (without left chain) refutation (λ x there. kept_is_there passes left x there)
     (epochs_are_refuted d more (without left chain) (reverse chain ++ listing) refutation (part_differs passes left differ) f))
     e

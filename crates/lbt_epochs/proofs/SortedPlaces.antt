@@ -11,7 +11,7 @@ use Rattle.std.proofs.lemmas.Map.Keys.{IsDistinct-IsPermutation}
 use Rattle.stale_model.specs.declared.Cluster.{Cluster}
 use Rattle.lbt_epochs.specs.Lists.{cluster_at, ArePlacesBy}
 use Rattle.lbt_epochs.specs.Links.{Links, has, AreApart, IsRing, AreLeft, AreKept}
-use Rattle.lbt_epochs.proofs.Sorted.{filter_all}
+use Rattle.lbt_epochs.proofs.Filters.{filter_all}
 use Rattle.lbt_epochs.proofs.LinksHas.{has_cases, lacks_front, lacks_behind, lacks_cons}
 use Rattle.lbt_epochs.proofs.LinksMade.{range_below}
 

@@ -1,16 +1,16 @@
 -- The steps of chains, rounds and epochs over places.
-use Rattle.std.specs.Prelude.{◌≡◌, ℕ, ◌-◌, ◌^◌, ◌<◌, ◌++◌, [], ◌∷◌, min, nat_lt, if◌then◌else◌, List, map, length, Option, Some, None, All, Contains}
+use Rattle.std.specs.Prelude.{◌≡◌, ℕ, ◌+◌, ◌-◌, ◌^◌, ◌<◌, ◌++◌, [], ◌∷◌, min, nat_lt, if◌then◌else◌, List, map, length, Option, Some, None, All, Contains}
 use Rattle.stale_model.specs.declared.Cluster.{Cluster}
 use Rattle.stale_model.specs.declared.Try.{Try}
-use Rattle.stale_model.specs.Chains.{without, demand, Demand, nothing, one, impossible, chain, Chain, ends, fails, cut, Round, removes, repeats, refutes, writes_of}
-use Rattle.stale_model.specs.Orders.{IsWithoutRepeats}
+use Rattle.stale_model.specs.Clusters.{writes_of, WriteRecordsDiffer}
+use Rattle.stale_model.specs.Chains.{without, demand, Demand, nothing, one, impossible, chain, Chain, ends, fails, cut, Round, removes, repeats, refutes, rounds}
 use Rattle.lbt_epochs.specs.Lists.{Lists, with_placed, left, cluster_at, AreListsOf}
-use Rattle.lbt_epochs.specs.declared.two.Asked.{Asked}
-use Rattle.lbt_epochs.specs.declared.two.Asked.TheVariants.{Nothing, One, Impossible}
-use Rattle.lbt_epochs.specs.declared.two.Ran.{Ran}
-use Rattle.lbt_epochs.specs.declared.two.Tried.{Tried}
-use Rattle.lbt_epochs.specs.declared.two.Found.{Found}
-use Rattle.lbt_epochs.specs.declared.two.Found.TheVariants.{Removes, Repeats, Refutes}
+use Rattle.lbt_epochs.specs.declared.chains.Asked.{Asked}
+use Rattle.lbt_epochs.specs.declared.chains.Asked.TheVariants.{Nothing, One, Impossible}
+use Rattle.lbt_epochs.specs.declared.chains.Ran.{Ran}
+use Rattle.lbt_epochs.specs.declared.rounds.Tried.{Tried}
+use Rattle.lbt_epochs.specs.declared.rounds.Found.{Found}
+use Rattle.lbt_epochs.specs.declared.rounds.Found.TheVariants.{Removes, Refutes}
 
 -- the clusters that are not placed, in candidate order
 abbrev pub clusters_left : List Cluster → Lists → List Cluster
@@ -19,7 +19,7 @@ clusters_left clusters lists = map (cluster_at clusters) (left lists.placed list
 -- the lists are those of the clusters, whose write records differ
 pub record IsReady (clusters : List Cluster) (lists : Lists) : Type 0 where
   pub lists_are : AreListsOf clusters lists
-  pub differ : IsWithoutRepeats (writes_of clusters)
+  pub differ : WriteRecordsDiffer clusters
 
 -- x, where it starts after this tick
 abbrev pub if_late : {X : Type 0} → (X → ℕ) → ℕ → Option X → Option X
@@ -84,11 +84,19 @@ pub record HasKept (round is : Round) (old new : Lists) : Type 0 where
   pub kept : new ≡ old
   pub round_is : round ≡ is
 
--- the round went so
+-- what was found is what the round or the rounds give
 abbrev pub IsFound : List Cluster → Round → Lists → Lists → Found → Type 0
 IsFound clusters round old new Removes = HasRemoved clusters round old new
-IsFound clusters round old new Repeats = HasKept round repeats old new
 IsFound clusters round old new (Refutes tries) = HasKept round (refutes tries) old new
+
+-- the round went so: none where it repeats
+abbrev pub WentSo : List Cluster → Round → Lists → Lists → Option Found → Type 0
+WentSo clusters round old new None = HasKept round repeats old new
+WentSo clusters round old new (Some found) = IsFound clusters round old new found
+
+-- the rounds of the clusters that are not placed
+abbrev pub rounds_of : ℕ → List Cluster → Lists → Round
+rounds_of d clusters lists = let left = clusters_left clusters lists in rounds d (length left + 1) 0 left
 
 -- how many clusters a chain has at most after its first in this round: no fewer than there are, where there are fewer than 2^32
 abbrev pub room_in : ℕ → ℕ

@@ -1,14 +1,18 @@
 //! Whether a key is 2-atomic: limited backtracking over its clusters (after Golab, Hurwitz and Li 2013).
 #![tactic(auto)]
 
+mod chains;
+mod epochs;
 mod links;
 mod lists;
-mod two;
+mod rounds;
 mod two_laws;
 
+pub use epochs::{two_atomic, two_atomic_at};
 pub use lists::Lists;
-pub use two::{two_atomic, two_atomic_at};
-pub use two_laws::{listings_are_answered, refutations_are_answered};
+pub use two_laws::{
+    answers_exist, answers_tell_whether_listed, listings_are_answered, refutations_are_answered,
+};
 
 #[cfg(test)]
 mod tests;

@@ -1,5 +1,5 @@
 //! Places that are linked in a ring, each with the one before it and the one after it.
-ghost use Rattle.std.specs.Prelude.{◌≡◌, ℕ, ◌+◌, ◌-◌, ◌^◌, ◌<◌, ◌≤◌, true, length, IfOk};
+ghost use Rattle.std.specs.Prelude.{◌≡◌, ℕ, ◌+◌, ◌-◌, ◌<◌, true, length, IfOk};
 ghost use Rattle.std.specs.List.{range_with_len};
 ghost use Rattle.lbt_epochs.specs.Links.{unlinked, relinked, with_last, place_after, all_alone, has, AreApart, IsRing};
 
@@ -21,7 +21,9 @@ impl Model for Links {
 
     ghost view = { λ l. record { next = l.next.items; previous = l.previous.items } };
 
-    ghost invariant = { λ l. AreNodes (record { next = l.next.items; previous = l.previous.items }) };
+    ghost invariant = {
+        λ l. AreNodes (record { next = l.next.items; previous = l.previous.items })
+    };
 }
 
 // The numbers up to this one, which is among them.

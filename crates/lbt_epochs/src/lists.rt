@@ -1,9 +1,8 @@
 //! The places of clusters in three orders, from which places are taken and put back.
-ghost use Rattle.std.specs.Prelude.{◌≡◌, ℕ, ◌+◌, ◌-◌, ◌^◌, ◌<◌, true, [], ◌∷◌, ◌++◌, length, take, slice_get, Contains, is_some, filter, IfOk};
-ghost use Rattle.std.specs.List.{range_with_len};
+ghost use Rattle.std.specs.Prelude.{◌≡◌, ℕ, ◌+◌, ◌-◌, ◌^◌, ◌<◌, true, [], ◌∷◌, ◌++◌, length, map, take, slice_get, Contains, is_some, filter, IfOk};
 ghost use Rattle.stale_model.specs.Chains.{candidate_order};
 ghost use Rattle.stale_model.specs.Orders.{StandsAt};
-ghost use Rattle.lbt_epochs.specs.Lists.{with_placed, left, cluster_at, late_write_order, late_read_order, ArePlacesBy, AreListsOf};
+ghost use Rattle.lbt_epochs.specs.Lists.{with_placed, left, cluster_at, numbered, late_write_order, late_read_order, ArePlacesBy, AreListsOf};
 
 use crate::links::Links;
 use stale_model::{Cluster, Memory};
@@ -11,24 +10,12 @@ use std::alloc::{AllocError, Global};
 use std::cmp::Ordering;
 use std::marker::Model;
 
-// What stands past the end of a list of clusters.
-const NO_CLUSTER: Cluster = Cluster {
-    write: 0,
-    f: 0,
-    w: 0,
-    s: None,
-    first: 0,
-    last: 0,
-};
-
 /// The cluster at a place.
 pub(crate) fn cluster_at(clusters: &[Cluster], at: u32) -> Cluster
+    requires { at < length clusters.now }
     ensures { result ≡ cluster_at clusters.now at }
 {
-    match clusters.get(at as usize) {
-        Some(cluster) => *cluster,
-        None => NO_CLUSTER,
-    }
+    clusters[at as usize]
 }
 
 // Candidates stand by falling f, then by falling record of the write.
@@ -49,65 +36,72 @@ fn late_write_cmp(a: &Cluster, b: &Cluster) -> Ordering
 fn late_read_cmp(a: &Cluster, b: &Cluster) -> Ordering
     ensures { result ≡ late_read_order a.now b.now }
 {
-    let (a_start, b_start) = (a.s.unwrap_or(0), b.s.unwrap_or(0));
-    b_start.cmp(&a_start).then(a.write.cmp(&b.write))
+    let by_start = b.reads_start().cmp(&a.reads_start());
+    by_start.then(a.write.cmp(&b.write))
 }
 
-// The places of the clusters.
-fn places_of(alloc: Global, clusters: &[Cluster]) -> Result<Vec<u32>, AllocError>
+// The clusters, each behind its place.
+fn numbered(alloc: Global, clusters: &[Cluster]) -> Result<Vec<(u32, Cluster)>, AllocError>
     requires few { length clusters.now < 2 ^ 32 }
-    ensures { IfOk result (λ places. places.items ≡ range_with_len 0 (length clusters.now)) }
-{
-    (0..clusters.len() as u32).collect(alloc)
-}
-
-// The places of the clusters with reads.
-fn places_with_reads(alloc: Global, clusters: &[Cluster]) -> Result<Vec<u32>, AllocError>
-    requires few { length clusters.now < 2 ^ 32 }
-    ensures { IfOk result (λ places. places.items ≡ filter (λ at. is_some (cluster_at clusters.now at).s) (range_with_len 0 (length clusters.now))) }
+    ensures { IfOk result (λ all. all.items ≡ numbered clusters.now) }
 {
     (0..clusters.len() as u32)
-        .filter(|at| cluster_at(clusters, *at).s.is_some())
+        .map(|at| (at, cluster_at(clusters, at)))
         .collect(alloc)
+}
+
+// Those of them that have reads.
+fn numbered_reads(alloc: Global, clusters: &[Cluster]) -> Result<Vec<(u32, Cluster)>, AllocError>
+    requires few { length clusters.now < 2 ^ 32 }
+    ensures { IfOk result (λ all. all.items ≡ filter (λ one. is_some one.1.s) (numbered clusters.now)) }
+{
+    let mut all = numbered(alloc, clusters)?;
+    all.retain(|one| one.1.s.is_some());
+    Ok(all)
+}
+
+// The places alone.
+fn places_in(alloc: Global, all: &[(u32, Cluster)]) -> Result<Vec<u32>, AllocError>
+    ensures { IfOk result (λ places. places.items ≡ map (λ one. one.0) all.now) }
+{
+    all.iter().map(|one| one.0).collect(alloc)
 }
 
 // The places of the clusters in the order of candidates.
 fn candidate_places(alloc: Global, clusters: &[Cluster]) -> Result<Vec<u32>, AllocError>
     requires few { length clusters.now < 2 ^ 32 }
-    ensures { IfOk result (λ places. ArePlacesBy clusters.now (λ c. true) candidate_order places.items) }
+    ensures {
+        IfOk result (λ places. ArePlacesBy clusters.now (λ c. true) candidate_order places.items)
+    }
 {
-    let mut places = places_of(alloc, clusters)?;
-    places.sort_unstable_by(|a, b| candidate_cmp(
-        &cluster_at(clusters, *a),
-        &cluster_at(clusters, *b),
-    ));
-    Ok(places)
+    let mut all = numbered(alloc, clusters)?;
+    all.sort_unstable_by(|a, b| candidate_cmp(&a.1, &b.1));
+    places_in(alloc, &all)
 }
 
 // The places of the clusters, the latest writes first.
 fn late_write_places(alloc: Global, clusters: &[Cluster]) -> Result<Vec<u32>, AllocError>
     requires few { length clusters.now < 2 ^ 32 }
-    ensures { IfOk result (λ places. ArePlacesBy clusters.now (λ c. true) late_write_order places.items) }
+    ensures {
+        IfOk result (λ places. ArePlacesBy clusters.now (λ c. true) late_write_order places.items)
+    }
 {
-    let mut places = places_of(alloc, clusters)?;
-    places.sort_unstable_by(|a, b| late_write_cmp(
-        &cluster_at(clusters, *a),
-        &cluster_at(clusters, *b),
-    ));
-    Ok(places)
+    let mut all = numbered(alloc, clusters)?;
+    all.sort_unstable_by(|a, b| late_write_cmp(&a.1, &b.1));
+    places_in(alloc, &all)
 }
 
 // The places of the clusters with reads, the latest reads first.
 fn late_read_places(alloc: Global, clusters: &[Cluster]) -> Result<Vec<u32>, AllocError>
     requires few { length clusters.now < 2 ^ 32 }
-    ensures { IfOk result (λ places. ArePlacesBy clusters.now (λ c. is_some c.s) late_read_order places.items) }
+    ensures {
+        let are = ArePlacesBy clusters.now (λ c. is_some c.s) late_read_order in
+        IfOk result (λ places. are places.items)
+    }
 {
-    let mut places = places_with_reads(alloc, clusters)?;
-    places.sort_unstable_by(|a, b| late_read_cmp(
-        &cluster_at(clusters, *a),
-        &cluster_at(clusters, *b),
-    ));
-    Ok(places)
+    let mut all = numbered_reads(alloc, clusters)?;
+    all.sort_unstable_by(|a, b| late_read_cmp(&a.1, &b.1));
+    places_in(alloc, &all)
 }
 
 /// The places of clusters in three orders, and those that are placed. Of each order those that are not placed are linked
@@ -130,10 +124,17 @@ impl Model for Lists {
 
     ghost Value = { Places };
 
-    ghost view = { λ l. record { candidates = l.candidates.items; writes = l.writes.items; reads = l.reads.items; placed = l.placed.items } };
+    ghost view = {
+        λ l. record {
+            candidates = l.candidates.items; writes = l.writes.items; reads = l.reads.items; placed = l.placed.items
+        }
+    };
 
-    ghost invariant = { λ l. AreKept (record { candidates = l.candidates.items; writes = l.writes.items; reads = l.reads.items; placed = l.placed.items })
-        (vec_capacity l.placed) l.by_candidate l.by_write l.by_read };
+    ghost invariant = {
+        λ l. AreKept (record {
+            candidates = l.candidates.items; writes = l.writes.items; reads = l.reads.items; placed = l.placed.items
+        }) (vec_capacity l.placed) l.by_candidate l.by_write l.by_read
+    };
 }
 
 impl Lists {
@@ -198,7 +199,10 @@ impl Lists {
     /// Puts the one that was placed last back among the others.
     pub fn undo(&mut self)
         requires { 0 < length self.old.placed }
-        ensures { self.new ≡ with_placed self.old (take (length self.old.placed - 1) self.old.placed) }
+        ensures {
+            let placed = self.old.placed in
+            self.new ≡ with_placed self.old (take (length placed - 1) placed)
+        }
     {
         let Some(at) = self.placed.pop() else {
             unreachable!()
@@ -218,7 +222,10 @@ impl Lists {
     /// The candidate after this one.
     pub fn next_candidate(&self, at: u32) -> Option<u32>
         requires { Contains (left self.now.placed self.now.candidates) at }
-        ensures { (i : ℕ) → StandsAt (left self.now.placed self.now.candidates) i at → result ≡ slice_get (left self.now.placed self.now.candidates) (i + 1) }
+        ensures {
+            let candidates = left self.now.placed self.now.candidates in
+            (i : ℕ) → StandsAt candidates i at → result ≡ slice_get candidates (i + 1)
+        }
     {
         self.by_candidate.after(at)
     }

@@ -1,8 +1,10 @@
-ghost use Rattle.stale_model.specs.Clusters.{writes_of};
-ghost use Rattle.stale_model.specs.Orders.{IsWithoutRepeats};
+//! Answers worked by hand, and one of more clusters than two bytes count.
+ghost use Rattle.std.specs.Prelude.{◌≡◌, ◌^◌, ◌<◌, length, IfOk};
+ghost use Rattle.stale_model.specs.Clusters.{WriteRecordsDiffer};
 
 use super::*;
 use stale_model::{Cluster, End, Two};
+use std::alloc::{AllocError, Global};
 use std::test::Fail;
 
 // The cluster of the initial write, without reads.
@@ -17,7 +19,7 @@ const INITIAL: Cluster = Cluster {
 
 // The initial write, and a write after it.
 fn writes_alone() -> [Cluster; 2]
-    ensures { IsWithoutRepeats (writes_of result) }
+    ensures { WriteRecordsDiffer result }
 {
     let write = Cluster {
         write: 1,
@@ -41,7 +43,7 @@ fn writes_without_reads(rt: HostRuntime) -> Result<(), Fail> {
 
 // Two writes at once, a write after both, and then a read of each of the first two.
 fn stuck_writes() -> [Cluster; 4]
-    ensures { IsWithoutRepeats (writes_of result) }
+    ensures { WriteRecordsDiffer result }
 {
     let first = Cluster {
         write: 1,
@@ -91,6 +93,36 @@ fn writes_that_are_stuck(rt: HostRuntime) -> Result<(), Fail> {
     {
         assert_eq!(rt; found.chain.as_slice(), [*write].as_slice());
         assert_eq!(rt; found.end, *end);
+    }
+    Ok(())
+}
+
+// So many writes, each at a tick of its own, without reads.
+fn writes_in_turn(alloc: Global, count: u32) -> Result<Vec<Cluster>, AllocError>
+    ensures differ { IfOk result (λ clusters. WriteRecordsDiffer clusters.items) }
+    ensures long { IfOk result (λ clusters. length clusters.items ≡ count) }
+{
+    (0..count)
+        .map(|write| Cluster {
+            write,
+            f: write as u64,
+            w: write as u64,
+            s: None,
+            first: write,
+            last: write,
+        })
+        .collect(alloc)
+}
+
+#[test]
+fn more_writes_than_two_bytes_count(rt: HostRuntime) -> Result<(), Fail> {
+    let clusters = writes_in_turn(rt.alloc(), 70_000)?;
+    let Two::Yes(writes) = two_atomic(rt.alloc(), &clusters)? else {
+        panic!(rt; "a refutation of what has a listing")
+    };
+    assert_eq!(rt; writes.as_slice().len(), 70_000);
+    for (place, write) in writes.as_slice().iter().enumerate() {
+        assert_eq!(rt; *write as usize, place);
     }
     Ok(())
 }

@@ -1,5 +1,5 @@
 use Rattle.stale_model.specs.Operations.{operations}
-use Rattle.model_laws.proofs.ClustersOne.{cluster_writes_differ}
+use Rattle.stale_model.proofs.ClustersOne.{cluster_writes_differ}
 use Rattle.audit_workers.proofs.Clear.{starts_by_finish, writes_listed, judged}
 use Rattle.audit_workers.proofs.judge_clear.Goals as goal
 

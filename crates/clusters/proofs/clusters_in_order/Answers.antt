@@ -10,8 +10,9 @@ use Rattle.clusters.proofs.clusters_in_order.Goals as goal
 pub returns : goal.returns
 returns c =
     let key = c.args.key.now in
+    let gives = c.operations.ensures in
     items_from_collect _ c.collect.ensures.ran
     (YieldsList-from_filter_map _ (cluster_in c.args.table.now)
     (YieldsList-at c.filter_map.ensures.source
-    (YieldsList-from_chain (YieldsList-at c.chain.ensures.first (YieldsList-from_once (Some initial_write) c.once.ensures.item)) (YieldsList-at c.chain.ensures.second (YieldsList-from_copied (YieldsList-from_slice key.ops cc))) c.chain.ensures.first_done c.chain.ensures.second_done))
+    (YieldsList-from_chain (YieldsList-from_once (Some initial_write) gives.initial) (YieldsList-from_copied (YieldsList-from_slice key.ops gives.others)) gives.initial_left gives.others_left))
     c.filter_map.ensures.closure (λ x r q k. search (rules, tests)))

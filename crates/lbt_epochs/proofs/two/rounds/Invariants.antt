@@ -1,5 +1,0 @@
-use Rattle.lbt_epochs.proofs.TwoRoundsGo.{AreRoundsSoFar}
-use Rattle.lbt_epochs.proofs.two.rounds.Given as goal
-
-abbrev pub invariant-loop-r : goal.invariant-loop-r
-invariant-loop-r l = AreRoundsSoFar l.d l.clusters l.fn.lists l.lists l.r
