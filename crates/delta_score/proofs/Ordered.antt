@@ -114,7 +114,7 @@ module _ (ops : List Op) (d : ℕ) (clusters zones : List Cluster) (names : Name
               absurd (omega arith)));
         }
 
-    is_order : IsOrder ops d 1 (records_of sorted)
+    pub is_order : IsOrder ops d 1 (records_of sorted)
     is_order = record {
       each_once = each_once;
       extends = λ a b ca cb precedes. less_stands_before ops d 1 (writes_of zones) sorted sorts up a b ca cb (precedes_less a b ca cb precedes);

@@ -1,4 +1,4 @@
-ghost use Rattle.std.specs.Prelude.{◌≡◌, ◌-◌, ◌*◌, ◌≤◌, ◌<◌, All, IfOk};
+ghost use Rattle.std.specs.Prelude.{◌≡◌, ◌*◌, ◌≤◌, ◌<◌, All, IfOk};
 ghost use Rattle.stale_model.specs.Clusters.{WriteRecordsDiffer};
 
 use super::*;
@@ -9,48 +9,51 @@ use zones::{Swept, sweep};
 
 const CLUSTERS: u32 = 500_001;
 
-// The cluster of the initial write, and then one after the other a write and a read that starts once
-// the write has finished.
-fn cluster(i: u32) -> Cluster
-    requires { i < CLUSTERS }
-    ensures write { result.write ≡ 2 * i - 1 }
+const SLOTS: u32 = 200_003;
+
+const SCORES: u64 = 3_000;
+
+// A write, and a read that starts once the write of the next slot of time has finished: in the slots up to `scores`, counted
+// from 0, it starts as many ticks later as the slot's number says. Where some reads are stale, the clusters take the slots
+// out of turn.
+fn cluster(place: u32, scores: u64) -> Cluster
+    requires { place < CLUSTERS }
+    ensures write { result.write ≡ 2 * place }
     ensures starts { result.w ≤ result.f }
 {
-    let tick = 10 * u64::from(i);
-    if i == 0 {
-        return Cluster {
-            write: 0,
-            f: 0,
-            w: 0,
-            s: None,
-            first: 0,
-            last: 0,
-        };
-    }
+    let turn = u64::from(place);
+    let slot = if scores == 0 {
+        turn
+    } else {
+        turn * 123_607 % u64::from(SLOTS)
+    };
+    let tick = 10_000 * slot;
+    let score = if slot <= scores { slot } else { 0 };
     Cluster {
-        write: 2 * i - 1,
+        write: 2 * place,
         f: tick + 1,
         w: tick,
-        s: Some(tick + 2),
-        first: 2 * i - 1,
-        last: 2 * i,
+        s: Some(tick + 10_001 + score),
+        first: 2 * place,
+        last: 2 * place + 1,
     }
 }
 
-fn long_history(alloc: Global) -> Result<Vec<Cluster>, Memory>
-    ensures differ { IfOk result (λ clusters. WriteRecordsDiffer clusters.items) }
-    ensures starts { IfOk result (λ clusters. All (λ c. c.w ≤ c.f) clusters.items) }
+fn long_history(alloc: Global, clusters: u32, scores: u64) -> Result<Vec<Cluster>, Memory>
+    requires { clusters ≤ CLUSTERS }
+    ensures differ { IfOk result (λ history. WriteRecordsDiffer history.items) }
+    ensures starts { IfOk result (λ history. All (λ c. c.w ≤ c.f) history.items) }
 {
-    let mut clusters = Vec::new(alloc);
-    for i in 0..CLUSTERS {
-        clusters.push(cluster(i)).map_err(|_| Memory)?;
+    let mut history = Vec::new(alloc);
+    for i in 0..clusters {
+        history.push(cluster(i, scores)).map_err(|_| Memory)?;
     }
-    Ok(clusters)
+    Ok(history)
 }
 
 #[test]
 fn a_long_history_without_stale_reads(rt: HostRuntime) -> Result<(), Fail> {
-    let clusters = long_history(rt.alloc())?;
+    let clusters = long_history(rt.alloc(), CLUSTERS, 0)?;
     let least = least_delta(rt.alloc(), &clusters)?;
     assert_eq!(rt; least.delta, 0);
     assert_eq!(rt; least.refuter, None);
@@ -62,6 +65,16 @@ fn a_long_history_without_stale_reads(rt: HostRuntime) -> Result<(), Fail> {
             .zip(clusters.iter())
             .all(|(write, cluster)| *write == cluster.write)
     );
+    Ok(())
+}
+
+// Each pair that a sweep finds scores one more than the pair before it. One sweep a score takes minutes.
+#[test]
+fn a_long_history_whose_reads_get_staler(rt: HostRuntime) -> Result<(), Fail> {
+    let clusters = long_history(rt.alloc(), SLOTS, SCORES)?;
+    let least = least_delta(rt.alloc(), &clusters)?;
+    assert_eq!(rt; least.delta, SCORES);
+    assert_eq!(rt; least.order.as_slice().len(), SLOTS as usize);
     Ok(())
 }
 
