@@ -12,10 +12,10 @@ use stale_model::{Bytes, History, KeyOps, List, Memory, Op};
 use std::alloc::Global;
 use std::marker::Model;
 
-/// The tick at which a write that never finished counts as finished.
+// The tick at which a write that never finished counts as finished.
 const NEVER: u64 = 9_223_372_036_854_775_808;
 
-/// A copy of a text.
+// A copy of a text.
 fn copy_of(alloc: Global, text: &[u8]) -> Result<Vec<u8>, Memory>
     ensures { IfOk result (λ copy. copy.items ≡ text.now) }
 {
@@ -25,7 +25,7 @@ fn copy_of(alloc: Global, text: &[u8]) -> Result<Vec<u8>, Memory>
     Ok(copy)
 }
 
-/// The place of a text among texts.
+// The place of a text among texts.
 fn find(texts: &IndexSet<Vec<u8>>, text: &[u8]) -> Option<usize>
     ensures { result ≡ position (bytes_eq text.now) (texts_of texts.now.keys) }
 {
@@ -39,7 +39,7 @@ fn find(texts: &IndexSet<Vec<u8>>, text: &[u8]) -> Option<usize>
     texts.get_index_of(text)
 }
 
-/// The place of a text among texts, which is put at their end if it is new.
+// The place of a text among texts, which is put at their end if it is new.
 fn place_of(texts: &mut IndexSet<Vec<u8>>, alloc: Global, text: &[u8]) -> Result<usize, Memory>
     ensures place { IfOk result (λ place. place ≡ position_or_len (bytes_eq text.now) (texts_of texts.old.keys)) }
     ensures texts { OnOk result (texts_of texts.new.keys ≡ with_text (texts_of texts.old.keys) text.now) }
@@ -55,7 +55,7 @@ fn place_of(texts: &mut IndexSet<Vec<u8>>, alloc: Global, text: &[u8]) -> Result
     Ok(place)
 }
 
-/// A key as its entries come: its values so far, and its operations.
+// A key as its entries come: its values so far, and its operations.
 #[derive(Drop)]
 pub(crate) struct KeyBuilder {
     values: IndexSet<Vec<u8>>,
@@ -73,7 +73,7 @@ impl Model for KeyBuilder {
 }
 
 impl KeyBuilder {
-    /// A key with no entries yet.
+    // A key with no entries yet.
     fn new(alloc: Global) -> KeyBuilder
         ensures { result ≡ contents_of [] }
     {
@@ -83,7 +83,7 @@ impl KeyBuilder {
         }
     }
 
-    /// The number of a value, which is a new one where the value is.
+    // The number of a value, which is a new one where the value is.
     fn number(&mut self, alloc: Global, value: &[u8]) -> Result<u32, Memory>
         requires { length self.old.values < most_records }
         ensures number { IfOk result (λ number. number ≡ value_number self.old.values value.now) }
@@ -97,7 +97,7 @@ impl KeyBuilder {
         Ok(place as u32 + 1)
     }
 
-    /// Takes one more entry of the key.
+    // Takes one more entry of the key.
     fn add(&mut self, alloc: Global, entry: &Entry) -> Result<(), Memory>
         requires { (entries : List Entry) × (self.old ≡ contents_of entries) × (length entries < most_records) }
         ensures { OnOk result ((entries : List Entry) → self.old ≡ contents_of entries → self.new ≡ contents_of (entries ++ entry.now ∷ [])) }
@@ -118,7 +118,7 @@ impl KeyBuilder {
         Ok(())
     }
 
-    /// The key of this name, to keep.
+    // The key of this name, to keep.
     fn finish(self, alloc: Global, name: Vec<u8>) -> Result<KeyOps, Memory>
         ensures { IfOk result (λ key. key ≡ named name.items self) }
     {
@@ -131,7 +131,7 @@ impl KeyBuilder {
     }
 }
 
-/// The texts of a set, moved and not copied.
+// The texts of a set, moved and not copied.
 fn texts(alloc: Global, set: IndexSet<Vec<u8>>) -> Result<List<Bytes>, Memory>
     ensures { IfOk result (λ texts. texts ≡ texts_of set.keys) }
 {
@@ -146,7 +146,7 @@ fn texts(alloc: Global, set: IndexSet<Vec<u8>>) -> Result<List<Bytes>, Memory>
     Ok(List::from_vec(texts))
 }
 
-/// The place of a key of this name, which is a new one, with no entries, if there was none.
+// The place of a key of this name, which is a new one, with no entries, if there was none.
 fn place_of_key(
     keys: &mut IndexMap<Vec<u8>, KeyBuilder>,
     alloc: Global,
@@ -166,7 +166,7 @@ fn place_of_key(
     Ok(place)
 }
 
-/// Takes one more entry of one of the keys.
+// Takes one more entry of one of the keys.
 fn add_to_key(
     keys: &mut IndexMap<Vec<u8>, KeyBuilder>,
     alloc: Global,
@@ -180,7 +180,7 @@ fn add_to_key(
     key.add(alloc, entry)
 }
 
-/// The keys, moved and not copied.
+// The keys, moved and not copied.
 fn finished(alloc: Global, keys: IndexMap<Vec<u8>, KeyBuilder>) -> Result<List<KeyOps>, Memory>
     ensures { IfOk result (λ finished. finished ≡ keys_shown keys.entries) }
 {
@@ -196,7 +196,7 @@ fn finished(alloc: Global, keys: IndexMap<Vec<u8>, KeyBuilder>) -> Result<List<K
     Ok(List::from_vec(finished))
 }
 
-/// A history as its entries come. Contracts see it as the history that they make.
+// A history as its entries come. Contracts see it as the history that they make.
 #[derive(Drop)]
 pub(crate) struct HistoryBuilder {
     keys: IndexMap<Vec<u8>, KeyBuilder>,
@@ -215,7 +215,7 @@ impl Model for HistoryBuilder {
 }
 
 impl HistoryBuilder {
-    /// A history with no entries yet.
+    // A history with no entries yet.
     pub(crate) fn new(alloc: Global) -> HistoryBuilder
         ensures { result ≡ history_of [] }
     {
@@ -226,7 +226,7 @@ impl HistoryBuilder {
         }
     }
 
-    /// Takes one more entry.
+    // Takes one more entry.
     pub(crate) fn add(&mut self, alloc: Global, entry: &Entry) -> Result<(), Memory>
         requires { (entries : List Entry) × (self.old ≡ history_of entries) × (length entries < most_records) }
         ensures { OnOk result ((entries : List Entry) → self.old ≡ history_of entries → self.new ≡ history_of (entries ++ entry.now ∷ [])) }
@@ -240,7 +240,7 @@ impl HistoryBuilder {
         Ok(())
     }
 
-    /// The history, to keep.
+    // The history, to keep.
     pub(crate) fn finish(self, alloc: Global) -> Result<History, Memory>
         ensures { IfOk result (λ history. history ≡ self) }
     {
