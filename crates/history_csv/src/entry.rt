@@ -14,7 +14,7 @@ use std::marker::Model;
 // The greatest tick, and the greatest slack.
 const GREATEST_TICK: u64 = 4_611_686_018_427_387_903;
 
-// What a record says. Contracts see its key and its value as texts.
+/// What a record says. Contracts see its key and its value as texts.
 #[derive(Drop)]
 pub(crate) struct Entry<'r> {
     pub(crate) rec: u32,
@@ -23,7 +23,7 @@ pub(crate) struct Entry<'r> {
     pub(crate) key: &'r [u8],
     pub(crate) value: &'r [u8],
     pub(crate) start: u64,
-    // None where the operation never finished.
+    /// None where the operation never finished.
     pub(crate) finish: Option<u64>,
     pub(crate) slack: u64,
 }
@@ -33,11 +33,20 @@ impl<'r> Model for Entry<'r> {
 
     ghost Value = { Entry };
 
-    ghost view = { λ e. record { rec = e.rec; client = e.client; kind = e.kind; key = e.key.now; value = e.value.now; start = e.start; finish = e.finish; slack = e.slack } };
+    ghost view = { λ e. record {
+      rec = e.rec;
+      client = e.client;
+      kind = e.kind;
+      key = e.key.now;
+      value = e.value.now;
+      start = e.start;
+      finish = e.finish;
+      slack = e.slack;
+    } };
 }
 
 impl<'r> Entry<'r> {
-    // Whether this is a read that never finished.
+    /// Whether this is a read that never finished.
     pub(crate) fn is_skipped(&self) -> bool
         ensures { result ≡ is_skipped self.now }
     {
@@ -174,7 +183,7 @@ fn slack_at(place: Option<usize>, row: &ByteRecord) -> Option<u64>
     }
 }
 
-// What record number `rec` says, or the first check that it fails.
+/// What record number `rec` says, or the first check that it fails.
 #[tactic(auto, unfolding(crate::specs::Entries::entry_of))]
 pub(crate) fn entry_of<'r>(
     columns: &Columns,

@@ -40,7 +40,7 @@ pub fn column_name(number: u8) -> &'static str
     }
 }
 
-// The field at a place.
+/// The field at a place.
 pub(crate) fn field(row: &ByteRecord, place: usize) -> &[u8]
     requires { place < length (fields_of row.now) }
     ensures { result.now ≡ field (fields_of row.now) place }
@@ -95,9 +95,8 @@ fn only_place(header: &ByteRecord, number: u8) -> Option<usize>
 fn optional_place(header: &ByteRecord, number: u8) -> Option<Option<usize>>
     requires { IsColumn number }
     ensures optional { result ≡ optional_place (column_name number) (fields_of header.now) }
-    ensures within {
-        IfSome result (λ found. IfSome found (λ place. place < length (fields_of header.now)))
-    }
+    ensures within { IfSome result
+        (λ found. IfSome found (λ place. place < length (fields_of header.now))) }
 {
     let name = column_name(number);
     if times_named(header, name) <= 1 {
@@ -107,7 +106,7 @@ fn optional_place(header: &ByteRecord, number: u8) -> Option<Option<usize>>
     }
 }
 
-// The columns that a header names, or the first that does not stand as it must.
+/// The columns that a header names, or the first that does not stand as it must.
 #[tactic(auto, unfolding(crate::specs::Header::columns_of))]
 pub(crate) fn columns_of(header: &ByteRecord) -> Result<Columns, HistoryFault>
     ensures columns { result ≡ columns_of (fields_of header.now) }

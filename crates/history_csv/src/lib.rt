@@ -31,8 +31,8 @@ const MOST_RECORDS: u32 = 1_000_000;
 pub enum HistoryFault {
     /// There is no record at all, so no header.
     NoHeader,
-    /// The header does not name this column exactly once, or `slack` more than once. The columns are
-    /// numbered 1 to 7: client, op, key, value, start, finish and slack.
+    /// The header does not name this column exactly once, or `slack` more than once. The columns
+    /// are numbered 1 to 7, and `column_name` gives the name of each.
     Column { name: u8 },
     /// The record has another number of fields than the header.
     Fields { rec: u32 },
@@ -78,15 +78,12 @@ fn take_records(
     requires reading { IsReading reader.old }
     requires within { StandsWithin columns.now }
     requires empty { history.old ≡ history_of [] }
-    ensures takes { OnOk result (history_after columns.now (records_left reader.old) ≡ Ok history.new) }
-    ensures fault {
-        IfErr result (λ fault. (fault ≡ HistoryFault.Memory)
-            ⊎ (history_after columns.now (records_left reader.old) ≡ Err fault))
-    }
-    ensures memory {
-        result ≡ Err HistoryFault.Memory
-            → WantsMemory (history_after columns.now) reader.old reader.new
-    }
+    ensures takes { OnOk result
+        (history_after columns.now (records_left reader.old) ≡ Ok history.new) }
+    ensures fault { IfErr result (λ fault. (fault ≡ HistoryFault.Memory)
+        ⊎ (history_after columns.now (records_left reader.old) ≡ Err fault)) }
+    ensures memory { result ≡ Err HistoryFault.Memory
+        → WantsMemory (history_after columns.now) reader.old reader.new }
 {
     for rec in 1..MOST_RECORDS + 1 {
         if !read_next(reader, row)? {
@@ -109,12 +106,10 @@ fn read_records(
     row: &mut ByteRecord,
 ) -> Result<History, HistoryFault>
     requires { IsReading reader.old }
-    ensures read {
-        (result ≡ Err HistoryFault.Memory) ⊎ (result ≡ history_of_records (records_left reader.old))
-    }
-    ensures memory {
-        result ≡ Err HistoryFault.Memory → WantsMemory history_of_records reader.old reader.new
-    }
+    ensures read { (result ≡ Err HistoryFault.Memory)
+        ⊎ (result ≡ history_of_records (records_left reader.old)) }
+    ensures memory { result ≡ Err HistoryFault.Memory
+        → WantsMemory history_of_records reader.old reader.new }
 {
     if !read_next(reader, row)? {
         return Err(HistoryFault::NoHeader);
@@ -127,11 +122,12 @@ fn read_records(
 
 /// Reads a history.
 ///
-/// The bytes are records of fields between commas, where quotes may stand round a field, after at most
-/// one byte order mark. The first record is the header. It names the columns `client`, `op`, `key`,
-/// `value`, `start` and `finish` in any order, once each, and may name `slack`. Columns of other names
-/// are not looked at. Keys, and the values of each key, are numbered by first appearance. A read with no
-/// finish is checked like any other record and then left out, and counts in `skipped`.
+/// The bytes are records of fields between commas, where quotes may stand round a field, after at
+/// most one byte order mark. The first record is the header. It names the columns `client`, `op`,
+/// `key`, `value`, `start` and `finish` in any order, once each, and may name `slack`. Columns of
+/// other names are not looked at. Keys, and the values of each key, are numbered by first
+/// appearance. A read with no finish is checked like any other record and then left out, and counts
+/// in `skipped`.
 ///
 /// # Errors
 /// The first of: a fault of the header, and the fault of the first record at fault, in the order of
@@ -144,10 +140,8 @@ pub fn read_history(alloc: Global, bytes: &[u8]) -> Result<History, HistoryFault
     ensures column { (name : ℕ) → result ≡ Err (HistoryFault.Column name) → IsColumn name }
     ensures valid { IfOk result IsValidHistory }
     ensures records { IfOk result (λ history. history.records + 1 ≡ length (records_of bytes.now)) }
-    ensures skipped {
-        IfOk result (λ history.
-            history.skipped + sum_by (λ key. length key.ops) history.keys ≡ history.records)
-    }
+    ensures skipped { IfOk result (λ history.
+        history.skipped + sum_by (λ key. length key.ops) history.keys ≡ history.records) }
 {
     let mut reader = reader_of(alloc, bytes);
     let mut row = ByteRecord::new(alloc);

@@ -41,8 +41,10 @@ fn find(texts: &IndexSet<Vec<u8>>, text: &[u8]) -> Option<usize>
 
 // The place of a text among texts, which is put at their end if it is new.
 fn place_of(texts: &mut IndexSet<Vec<u8>>, alloc: Global, text: &[u8]) -> Result<usize, Memory>
-    ensures place { IfOk result (λ place. place ≡ position_or_len (bytes_eq text.now) (texts_of texts.old.keys)) }
-    ensures texts { OnOk result (texts_of texts.new.keys ≡ with_text (texts_of texts.old.keys) text.now) }
+    ensures place { IfOk result (λ place.
+        place ≡ position_or_len (bytes_eq text.now) (texts_of texts.old.keys)) }
+    ensures texts { OnOk result
+        (texts_of texts.new.keys ≡ with_text (texts_of texts.old.keys) text.now) }
 {
     if let Some(place) = find(texts, text) {
         return Ok(place);
@@ -55,7 +57,7 @@ fn place_of(texts: &mut IndexSet<Vec<u8>>, alloc: Global, text: &[u8]) -> Result
     Ok(place)
 }
 
-// A key as its entries come: its values so far, and its operations.
+/// A key as its entries come: its values so far, and its operations.
 #[derive(Drop)]
 pub(crate) struct KeyBuilder {
     values: IndexSet<Vec<u8>>,
@@ -99,8 +101,10 @@ impl KeyBuilder {
 
     // Takes one more entry of the key.
     fn add(&mut self, alloc: Global, entry: &Entry) -> Result<(), Memory>
-        requires { (entries : List Entry) × (self.old ≡ contents_of entries) × (length entries < most_records) }
-        ensures { OnOk result ((entries : List Entry) → self.old ≡ contents_of entries → self.new ≡ contents_of (entries ++ entry.now ∷ [])) }
+        requires { (entries : List Entry) × (self.old ≡ contents_of entries)
+            × (length entries < most_records) }
+        ensures { OnOk result ((entries : List Entry) → self.old ≡ contents_of entries
+            → self.new ≡ contents_of (entries ++ entry.now ∷ [])) }
     {
         let value = self.number(alloc, entry.value)?;
         let op = Op {
@@ -152,8 +156,11 @@ fn place_of_key(
     alloc: Global,
     name: &[u8],
 ) -> Result<usize, Memory>
-    ensures place { IfOk result (λ place. place ≡ position_or_len (λ key. bytes_eq name.now key.name) (keys_shown keys.old.entries)) }
-    ensures keys { OnOk result (keys_shown keys.new.entries ≡ with_key (keys_shown keys.old.entries) name.now) }
+    ensures place { IfOk result (λ place.
+        place
+        ≡ position_or_len (λ key. bytes_eq name.now key.name) (keys_shown keys.old.entries)) }
+    ensures keys { OnOk result
+        (keys_shown keys.new.entries ≡ with_key (keys_shown keys.old.entries) name.now) }
 {
     if let Some(place) = keys.get_index_of(name) {
         return Ok(place);
@@ -172,8 +179,10 @@ fn add_to_key(
     alloc: Global,
     entry: &Entry,
 ) -> Result<(), Memory>
-    requires { (entries : List Entry) × (keys_shown keys.old.entries ≡ keys_of entries) × (length entries < most_records) }
-    ensures { OnOk result ((entries : List Entry) → keys_shown keys.old.entries ≡ keys_of entries → keys_shown keys.new.entries ≡ keys_of (entries ++ entry.now ∷ [])) }
+    requires { (entries : List Entry) × (keys_shown keys.old.entries ≡ keys_of entries)
+        × (length entries < most_records) }
+    ensures { OnOk result ((entries : List Entry) → keys_shown keys.old.entries ≡ keys_of entries
+        → keys_shown keys.new.entries ≡ keys_of (entries ++ entry.now ∷ [])) }
 {
     let place = place_of_key(keys, alloc, entry.key)?;
     let key = &mut keys[place];
@@ -196,7 +205,7 @@ fn finished(alloc: Global, keys: IndexMap<Vec<u8>, KeyBuilder>) -> Result<List<K
     Ok(List::from_vec(finished))
 }
 
-// A history as its entries come. Contracts see it as the history that they make.
+/// A history as its entries come. Contracts see it as the history that they make.
 #[derive(Drop)]
 pub(crate) struct HistoryBuilder {
     keys: IndexMap<Vec<u8>, KeyBuilder>,
@@ -211,11 +220,15 @@ impl Model for HistoryBuilder {
 
     ghost use Rattle.history_csv.specs.Building.{keys_shown};
 
-    ghost view = { λ b. record { keys = keys_shown b.keys.entries; records = b.records; skipped = b.skipped } };
+    ghost view = { λ b. record {
+      keys = keys_shown b.keys.entries;
+      records = b.records;
+      skipped = b.skipped;
+    } };
 }
 
 impl HistoryBuilder {
-    // A history with no entries yet.
+    /// A history with no entries yet.
     pub(crate) fn new(alloc: Global) -> HistoryBuilder
         ensures { result ≡ history_of [] }
     {
@@ -226,10 +239,12 @@ impl HistoryBuilder {
         }
     }
 
-    // Takes one more entry.
+    /// Takes one more entry.
     pub(crate) fn add(&mut self, alloc: Global, entry: &Entry) -> Result<(), Memory>
-        requires { (entries : List Entry) × (self.old ≡ history_of entries) × (length entries < most_records) }
-        ensures { OnOk result ((entries : List Entry) → self.old ≡ history_of entries → self.new ≡ history_of (entries ++ entry.now ∷ [])) }
+        requires { (entries : List Entry) × (self.old ≡ history_of entries)
+            × (length entries < most_records) }
+        ensures { OnOk result ((entries : List Entry) → self.old ≡ history_of entries
+            → self.new ≡ history_of (entries ++ entry.now ∷ [])) }
     {
         if entry.is_skipped() {
             self.skipped += 1;
@@ -240,7 +255,7 @@ impl HistoryBuilder {
         Ok(())
     }
 
-    // The history, to keep.
+    /// The history, to keep.
     pub(crate) fn finish(self, alloc: Global) -> Result<History, Memory>
         ensures { IfOk result (λ history. history ≡ self) }
     {

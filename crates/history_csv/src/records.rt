@@ -9,7 +9,7 @@ use csv::{ByteRecord, ErrorKind, Reader, ReaderBuilder};
 use stale_model::Memory;
 use std::alloc::Global;
 
-// A reader of the records of a file. It drops one byte order mark itself.
+/// A reader of the records of a file. It drops one byte order mark itself.
 pub(crate) fn reader_of(alloc: Global, bytes: &[u8]) -> Reader<&[u8]>
     ensures reading { IsReading result }
     ensures records { records_left result ≡ records_of bytes.now }
@@ -20,9 +20,9 @@ pub(crate) fn reader_of(alloc: Global, bytes: &[u8]) -> Reader<&[u8]>
         .from_reader(alloc, bytes)
 }
 
-// Reads the next record, and says whether there was one. An error stops the reader.
-//
-// A slice can't fail to be read, so `Io` is want of memory too. The reader's contract doesn't say this.
+/// Reads the next record, and says whether there was one. An error stops the reader.
+///
+/// A slice can't fail to be read, so `Io` never comes. The reader's contract leaves this open.
 pub(crate) fn read_next(reader: &mut Reader<&[u8]>, row: &mut ByteRecord) -> Result<bool, Memory>
     requires { IsReading reader.old }
     ensures takes { IfOk result (λ found. Takes reader.old found (fields_of row.new) reader.new) }

@@ -10,15 +10,15 @@ use crate::text::push_count;
 use stale_model::{History, Judgement, KeyOps, TwoPart, Verdict};
 use std::alloc::{AllocError, Global};
 
-// How many of some verdicts are of each kind, and the greatest delta of those that judge.
+/// How many of some verdicts are of each kind, and the greatest delta of those that judge.
 #[derive(Clone, Copy)]
 pub(crate) struct Totals {
     pub(crate) duplicate: u64,
     pub(crate) unmatched: u64,
     pub(crate) infinite: u64,
-    // Judged with delta 0.
+    /// Judged with delta 0.
     pub(crate) atomic: u64,
-    // Judged with an order in which each read returns one of the last two writes.
+    /// Judged with an order in which each read returns one of the last two writes.
     pub(crate) two_atomic: u64,
     pub(crate) worst: Option<u64>,
 }
@@ -50,7 +50,8 @@ impl Totals {
 
     // Counts one more verdict, which judges a key.
     fn add_judged(&mut self, judgement: &Judgement)
-        requires { (counted : List Verdict) × (self.old ≡ totals_of counted) × (length counted + 1 < 2 ^ 64) }
+        requires { (counted : List Verdict) × (self.old ≡ totals_of counted)
+            × (length counted + 1 < 2 ^ 64) }
         ensures { (counted : List Verdict) → self.old ≡ totals_of counted
             → self.new ≡ totals_of (counted ++ Verdict.Judged judgement.now ∷ []) }
     {
@@ -65,7 +66,8 @@ impl Totals {
 
     // Counts one more verdict.
     fn add(&mut self, verdict: &Verdict)
-        requires { (counted : List Verdict) × (self.old ≡ totals_of counted) × (length counted + 1 < 2 ^ 64) }
+        requires { (counted : List Verdict) × (self.old ≡ totals_of counted)
+            × (length counted + 1 < 2 ^ 64) }
         ensures { (counted : List Verdict) → self.old ≡ totals_of counted
             → self.new ≡ totals_of (counted ++ verdict.now ∷ []) }
     {
@@ -145,7 +147,7 @@ fn deltas_text(alloc: Global, totals: &Totals) -> Result<String, AllocError>
     Ok(text)
 }
 
-// The last line.
+/// The last line.
 pub(crate) fn total_line(
     alloc: Global,
     history: &History,

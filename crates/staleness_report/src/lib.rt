@@ -36,9 +36,9 @@ fn report_text(alloc: Global, history: &History, verdicts: &[Verdict]) -> Result
     Ok(text)
 }
 
-/// The last line of the report on a history, alone: how many keys, operations and skipped reads there
-/// are, how many keys are of each kind, and the greatest delta in ticks. `verdicts` has one verdict for
-/// each key, in the order of the keys.
+/// The last line of the report on a history, alone: how many keys, operations and skipped reads
+/// there are, how many keys are of each kind, and the greatest delta in ticks. `verdicts` has one
+/// verdict for each key, in the order of the keys.
 ///
 /// # Errors
 /// `Memory` may come at any time.
@@ -49,9 +49,10 @@ pub fn totals(alloc: Global, history: &History, verdicts: &[Verdict]) -> Result<
     bytes_of(total_line(alloc, history, verdicts))
 }
 
-/// The report on a history: for each key, in the order of the keys, a line `key NAME operations N ..`
-/// with its verdict, and a last line of totals. `verdicts` has one verdict for each key. A pair is named by
-/// the write records of its two clusters, and `two` says whether the key is 2-atomic.
+/// The report on a history: for each key, in the order of the keys, a line
+/// `key NAME operations N ..` with its verdict, and a last line of totals. `verdicts` has one
+/// verdict for each key. A pair is named by the write records of its two clusters, and `two` says
+/// whether the key is 2-atomic.
 ///
 /// # Errors
 /// `Memory` may come at any time.

@@ -59,8 +59,8 @@ fn cluster_of_record(ops: &[Op], rec: u32) -> u32
 
 // Puts the pair that conflicts just below delta behind a text.
 fn push_pair(text: &mut String, ops: &[Op], four: &Option<Four>) -> Result<(), AllocError>
-    ensures { OnOk result
-        (string_bytes text.new ≡ string_bytes text.old ++ pair_text (initial_write ∷ ops.now) four.now) }
+    ensures { OnOk result (string_bytes text.new
+        ≡ string_bytes text.old ++ pair_text (initial_write ∷ ops.now) four.now) }
 {
     let Some(four) = four else {
         return Ok(());
@@ -93,7 +93,8 @@ fn judgement_text(alloc: Global, ops: &[Op], judgement: &Judgement) -> Result<St
 
 // The end of a key's line.
 fn verdict_text(alloc: Global, ops: &[Op], verdict: &Verdict) -> Result<String, AllocError>
-    ensures { IfOk result (λ text. string_bytes text ≡ verdict_text (initial_write ∷ ops.now) verdict.now) }
+    ensures { IfOk result (λ text.
+        string_bytes text ≡ verdict_text (initial_write ∷ ops.now) verdict.now) }
 {
     match verdict {
         Verdict::Duplicate { rec } => format!(in alloc; "duplicate {rec}"),
@@ -117,7 +118,7 @@ fn key_line(alloc: Global, key: &KeyOps, verdict: &Verdict) -> Result<String, Al
     Ok(text)
 }
 
-// The lines of all keys.
+/// The lines of all keys.
 pub(crate) fn key_lines(
     alloc: Global,
     keys: &[KeyOps],

@@ -7,7 +7,7 @@ ghost use Rattle.staleness_report.specs.Escaped.{hex_digit, escaped_byte, escape
 use stale_model::{Bytes, Memory};
 use std::alloc::{AllocError, Global};
 
-// The bytes of a text that was made, or want of memory where making it found none.
+/// The bytes of a text that was made, or want of memory where making it found none.
 pub(crate) fn bytes_of(text: Result<String, AllocError>) -> Result<Bytes, Memory>
     ensures { MatchResult text (λ text. result ≡ Ok (string_bytes text)) (λ _. IsErr result) }
 {
@@ -41,7 +41,7 @@ fn push_escaped(text: &mut String, byte: u8) -> Result<(), AllocError>
     text.push(hex_digit(byte % 16))
 }
 
-// A name as it is printed.
+/// A name as it is printed.
 pub(crate) fn escaped_name(alloc: Global, name: &[u8]) -> Result<String, AllocError>
     ensures { IfOk result (λ text. string_bytes text ≡ escaped name.now) }
 {
@@ -52,9 +52,10 @@ pub(crate) fn escaped_name(alloc: Global, name: &[u8]) -> Result<String, AllocEr
     Ok(text)
 }
 
-// Puts a label and a number behind a text.
+/// Puts a label and a number behind a text.
 pub(crate) fn push_count(text: &mut String, label: &str, count: u64) -> Result<(), AllocError>
-    ensures { OnOk result (string_bytes text.new ≡ string_bytes text.old ++ label.now ++ decimal count) }
+    ensures { OnOk result
+        (string_bytes text.new ≡ string_bytes text.old ++ label.now ++ decimal count) }
 {
     text.push_str(label)?;
     write!(text, "{count}")
