@@ -6,13 +6,12 @@ use Rattle.stale_model.specs.declared.Cluster.{Cluster}
 use Rattle.stale_model.specs.Clusters.{AreClusters, writes_of}
 use Rattle.stale_model.specs.Orders.{ListsEachOnce}
 use Rattle.stale_model.proofs.ClustersOne.{cluster_writes_differ}
-use Rattle.stale_model.proofs.Places.{contains_at}
+use Rattle.stale_model.proofs.Places.{contains_at, write_there}
 use Rattle.stale_model.proofs.Sorted.{one_by_number}
 use Rattle.delta_score.specs.WriteLists.{write_records}
 use Rattle.delta_score.proofs.ListedWrites.{clusters_list_writes}
 use Rattle.lbt_epochs.specs.TwoLaws.{AreListed}
 use Rattle.lbt_epochs.proofs.RefutedClusters.{cluster_at_write, member_of_write}
-use Rattle.stale_model.proofs.Places.{write_there}
 
 -- a listing of the clusters lists each write once
 pub listing_lists_writes : (ops : List Op) (clusters listing : List Cluster) → AreClusters ops clusters → ListsEachOnce clusters listing

@@ -1,6 +1,6 @@
 use Rattle.history_csv.specs.Records.{IsReading, records_left}
 use Rattle.history_csv.proofs.ReadSteps.{ReadSoFar}
-use Rattle.history_csv.proofs.read_records.Given as goal
+use Rattle.history_csv.proofs.take_records.Given as goal
 
 abbrev pub invariant-loop-rec : goal.invariant-loop-rec
 invariant-loop-rec l = record {
