@@ -98,11 +98,12 @@ impl<R: Files + AllocGlobal + Drop> Shelf for RealShelf<R> {
     }
 }
 
-/// An output of the process. It tells nothing of what was written.
+/// An output of the process. It tells nothing of what was written, but whether that was handed on.
 #[derive(Drop)]
 pub struct RealSink<W: Write + Drop> {
     stream: W,
     faults: u64,
+    pending: bool,
 }
 
 impl<W: Write + Drop> RealSink<W> {
@@ -112,7 +113,11 @@ impl<W: Write + Drop> RealSink<W> {
     pub fn over(stream: W) -> RealSink<W>
         ensures { real_sink_shown result ≡ fresh_sink None }
     {
-        RealSink { stream, faults: 0 }
+        RealSink {
+            stream,
+            faults: 0,
+            pending: false,
+        }
     }
 }
 
@@ -166,6 +171,7 @@ impl<W: Write + Drop> Sink for RealSink<W> {
         ensures stream { OnOk result (Appends (W.contents (stream_of self.old))
             (W.contents (stream_of self.new)) piece.now) }
     {
+        self.pending = true;
         let written = write_whole(&mut self.stream, piece);
         if written.is_err() {
             raise(&mut self.faults);
@@ -178,6 +184,7 @@ impl<W: Write + Drop> Sink for RealSink<W> {
             raise(&mut self.faults);
             return Err(Failed);
         }
+        self.pending = false;
         Ok(())
     }
 }
