@@ -1,5 +1,5 @@
 -- What a refusal ends with, and that its status is the one that the content asks for where files are told and nothing fails.
-use Rattle.std.proofs.Common.{◌≡◌, ◌⊎◌, ℕ, ◌<◌, ◌≤◌, true, false, List, Option, Some, None, length, refl, sym, ◌∙◌, ap, inl, inr, subst, arith}
+use Rattle.std.proofs.Common.{◌≡◌, ℕ, ◌<◌, ◌≤◌, true, false, List, Option, Some, None, length, refl, sym, ◌∙◌, ap, inl, inr, subst, arith}
 use Rattle.std.specs.Prelude.{nat_lt, IfSome, IsSomeAnd}
 use Rattle.history_csv.specs.Reading.{read_of}
 use Rattle.audit_ports.specs.Shelf.{Shown, Files, KeepsFiles, file_at}
@@ -12,7 +12,7 @@ use Rattle.audit_commands.specs.Words.{history_name}
 use Rattle.audit_commands.specs.Status.{number}
 use Rattle.audit_commands.specs.Audit.{history_limit}
 use Rattle.audit_commands.specs.Refusals.{IsRefused, Answers}
-use Rattle.audit_commands.specs.Ends.{outside, Ends, IsComplete, Tells, NothingFailed, status_of_content, status_of_reading}
+use Rattle.audit_commands.specs.Ends.{outside, Ends, IsComplete, status_of_content, status_of_reading}
 
 module _ (words : List (List ℕ)) (name : List ℕ) (named : history_name words ≡ Some name) (s s' : Shown) (o o' e e' : SinkShown) where
   -- a refusal ends as its status means

@@ -1,7 +1,6 @@
 -- What a write leaves in an output.
-use Rattle.std.proofs.Common.{◌≡◌, ◌≤◌, ℕ, List, Ok, Err, Result, length, sym, ◌∙◌, ap, inl, inr, subst}
+use Rattle.std.proofs.Common.{◌≡◌, ℕ, List, Ok, Err, Result, length, sym, ◌∙◌, ap, inl, inr}
 use Rattle.std.proofs.Math.Seq.{take-length}
-use Rattle.audit_ports.specs.Shelf.{Rose}
 use Rattle.audit_ports.specs.Sink.{SinkShown, Writes, Flushes, GainsPrefix, appended}
 use Rattle.audit_commands.specs.Steps.{Prints}
 use Rattle.audit_commands.specs.Lines.{SaysLine}

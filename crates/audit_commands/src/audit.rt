@@ -30,8 +30,9 @@ fn take_history<S: Shelf>(alloc: Global, shelf: &mut S, name: &[u8]) -> Result<V
     ensures err { IfErr result (Shows name.now (S.shown shelf.old) (S.shown shelf.new)) }
 {
     let missing = name_line(alloc, "missing: ", name)?;
-    match take_file(alloc, shelf, name, HISTORY_LIMIT) {
-        Ok(bytes) => Ok(bytes),
+    let mut bytes = Vec::new(alloc);
+    match take_file(shelf, name, HISTORY_LIMIT, &mut bytes) {
+        Ok(()) => Ok(bytes),
         Err(TakeFault::Missing) => Err(Refusal::Missing(missing)),
         Err(TakeFault::Failed) => Err(Refusal::ReadFailed),
         Err(TakeFault::TooLong) => Err(Refusal::TooLong(name_line(alloc, "too long: ", name)?)),

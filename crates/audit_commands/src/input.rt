@@ -1,11 +1,11 @@
 //! Takes the bytes of input files.
 
-ghost use Rattle.std.specs.Prelude.{◌≡◌, ℕ, ◌^◌, ◌<◌, ◌≤◌, IfOk, IsErrOf, length};
+ghost use Rattle.std.specs.Prelude.{◌≡◌, ◌+◌, ◌^◌, ◌<◌, [], OnOk, IsErrOf, vec_len, vec_capacity};
 ghost use Rattle.audit_ports.specs.Shelf.{KeepsFiles, KeepsCounts, Misses, FailsReading};
 ghost use Rattle.audit_commands.specs.Input.{TakesInput, IsTooLong};
 
 use audit_ports::{Failed, OpenFault, Shelf};
-use std::alloc::{AllocError, Global};
+use std::alloc::AllocError;
 
 /// How many bytes are read at once.
 const PIECE: usize = 65536;
@@ -55,18 +55,19 @@ impl From<AllocError> for TakeFault {
     }
 }
 
-/// The bytes of a file, if they are not more than the limit. Where the shelf answers each call, the file stays open
-/// behind the bytes that were taken.
+/// Takes all bytes of a file, if they are not more than the limit. Where the shelf answers each call, the file stays
+/// open behind the bytes that were taken. `Memory` comes only where the bytes have no room for another piece.
 pub(crate) fn take_file<S: Shelf>(
-    alloc: Global,
     shelf: &mut S,
     name: &[u8],
     limit: usize,
-) -> Result<Vec<u8>, TakeFault>
-    requires { limit < 2 ^ 32 }
+    bytes: &mut Vec<u8>,
+) -> Result<(), TakeFault>
+    requires limit { limit < 2 ^ 32 }
+    requires empty { bytes.old.items ≡ [] }
     ensures keeps { KeepsFiles (S.shown shelf.old) (S.shown shelf.new) }
-    ensures ok { IfOk result (λ bytes.
-        TakesInput limit name.now (S.shown shelf.old) (S.shown shelf.new) bytes.items) }
+    ensures ok { OnOk result (TakesInput limit name.now
+        (S.shown shelf.old) (S.shown shelf.new) bytes.new.items) }
     ensures missing { IsErrOf result TakeFault.Missing →
         Misses name.now (S.shown shelf.old) (S.shown shelf.new) }
     ensures failed { IsErrOf result TakeFault.Failed →
@@ -75,17 +76,19 @@ pub(crate) fn take_file<S: Shelf>(
         IsTooLong limit name.now (S.shown shelf.old) (S.shown shelf.new) }
     ensures memory { IsErrOf result TakeFault.Memory →
         KeepsCounts (S.shown shelf.old) (S.shown shelf.new) }
+    ensures full { IsErrOf result TakeFault.Memory →
+        vec_capacity bytes.new < vec_len bytes.new + PIECE }
 {
     shelf.open(name)?;
-    let mut bytes = Vec::new(alloc);
     let mut piece = [0u8; PIECE];
     // Each turn takes a byte at least, so one more turn than the limit has bytes is never passed.
     for turn in 0..limit + 1 {
         let count = shelf.read(&mut piece)?;
         if count == 0 {
-            return Ok(bytes);
+            return Ok(());
         }
-        bytes.extend_from_slice(&piece[..count])?;
+        bytes.reserve(count)?;
+        bytes.extend_from_slice(&piece[..count]).unwrap();
         if bytes.len() > limit {
             return Err(TakeFault::TooLong);
         }

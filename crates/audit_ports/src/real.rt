@@ -1,5 +1,5 @@
 //! The real files and outputs: a few lines over std's, which tell nothing of what they hold.
-ghost use Rattle.std.specs.Prelude.{◌≡◌, IfOk, OnOk, None, IsErrOf, IsUtf8};
+ghost use Rattle.std.specs.Prelude.{◌≡◌, ◌≤◌, length, IfOk, OnOk, None, IsErrOf, IsUtf8};
 ghost use Rattle.std.specs.Io.KnownBytes.{Appends};
 ghost use Rattle.audit_ports.specs.Shelf.{fresh};
 ghost use Rattle.audit_ports.specs.Sink.{fresh_sink};
@@ -53,6 +53,13 @@ fn open_real<R: Files + AllocGlobal>(rt: &R, name: &[u8]) -> Result<(Vec<u8>, R:
     }
 }
 
+// Reads from a stream. Each error is a failure, an interruption too.
+pub(crate) fn read_stream<T: Read>(stream: &mut T, into: &mut [u8]) -> Result<usize, Failed>
+    ensures { IfOk result (λ count. count ≤ length into.new) }
+{
+    stream.read(into).map_err(|_| Failed)
+}
+
 impl<R: Files + AllocGlobal + Drop> Shelf for RealShelf<R> {
     ghost use Rattle.std.specs.Prelude.{IsErrOf, IsUtf8};
     ghost use Rattle.audit_ports.specs.Shelf.{Opens};
@@ -84,12 +91,12 @@ impl<R: Files + AllocGlobal + Drop> Shelf for RealShelf<R> {
     }
 
     fn read(&mut self, into: &mut [u8]) -> Result<usize, Failed> {
-        match self.file.as_mut().unwrap().read(into) {
+        match read_stream(self.file.as_mut().unwrap(), into) {
             Ok(count) => {
                 self.place = self.place.saturating_add(count as u64);
                 Ok(count)
             }
-            Err(_) => {
+            Err(Failed) => {
                 self.file = None;
                 raise(&mut self.read_faults);
                 Err(Failed)

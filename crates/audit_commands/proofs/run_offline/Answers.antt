@@ -1,7 +1,6 @@
-use Rattle.std.proofs.Common.{◌≡◌, Some, refl, rules, subst}
+use Rattle.std.proofs.Common.{◌≡◌, Some, refl, rules}
 use Rattle.audit_commands.specs.Words.{history_name}
 use Rattle.audit_commands.specs.Status.{number}
-use Rattle.audit_commands.specs.Ends.{IsComplete, outside}
 use Rattle.audit_commands.specs.declared.status.Status.TheVariants as status
 use Rattle.audit_commands.proofs.Ending.{refused, complete}
 use Rattle.audit_commands.proofs.run_offline.Goals as goal

@@ -6,13 +6,14 @@ use Rattle.audit_commands.proofs.input.take_file.Goals as goal
 pub loop-turn-preserved : goal.loop-turn-preserved
 loop-turn-preserved g c =
     let good : is_ok c.extend_from_slice.result ≡ true = search rules in
-    let items = rw good at c.extend_from_slice.ensures.items in
+    let same = c.reserve.ensures.items in
+    let items = rw (good, same) at c.extend_from_slice.ensures.items in
     let before = c.loop-turn.invariant in
     let count = c.in_ok-count.count in
     let some : 0 < count = omega arith in
     let within : count ≤ length c.read.new.into = search rules in
     let short : length c.extend_from_slice.new.self.items ≤ c.args.limit = search rules in
-    let small : length c.loop-turn.bytes.items < 2 ^ 32 = omega (arith, before.short, c.requires) in
+    let small : length c.loop-turn.bytes.items < 2 ^ 32 = omega (arith, before.short, c.requires.limit) in
     let ok = rw c.in_ok-count.was at c.read.ensures.ok in
     let counts = rw c.in_ok-count.was at c.read.ensures.counts in
     record {
