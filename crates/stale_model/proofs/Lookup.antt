@@ -16,9 +16,9 @@ use Rattle.std.proofs.lemmas.List.Sums.{position_or_len_is, fails_before_first, 
 use Rattle.std.proofs.lemmas.Option.{slice_get-get_or, slice_get_past}
 use Rattle.stale_model.specs.declared.Op.{Op}
 use Rattle.stale_model.specs.declared.KeyOps.{KeyOps}
-use Rattle.stale_model.specs.Operations.{operations, records_of, value_of_record}
+use Rattle.stale_model.specs.Operations.{operations, records_of}
 use Rattle.stale_model.specs.Valid.{IsValidOp, IsValidKey}
-use Rattle.stale_model.specs.NamedWrites.{RecordsDiffer}
+use Rattle.stale_model.specs.NamedWrites.{RecordsDiffer, value_of_record}
 use Rattle.stale_model.proofs.Comparisons.{same_nat, nat_same, not_less}
 use Rattle.stale_model.proofs.Sorted.{rises_from}
 

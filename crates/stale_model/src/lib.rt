@@ -160,7 +160,8 @@ impl KeyOps {
     ghost use Rattle.std.specs.Prelude.{◌≡◌, Some, false};
     ghost use Rattle.std.specs.Iterator.Adapters.{once_item, chain_first, chain_second, chain_first_done, chain_second_done, copied_source};
     ghost use Rattle.std.specs.Slice.Iter.{iter_rest};
-    ghost use Rattle.stale_model.specs.Operations.{initial_write, operations, value_of_record};
+    ghost use Rattle.stale_model.specs.Operations.{initial_write, operations};
+    ghost use Rattle.stale_model.specs.NamedWrites.{value_of_record};
     ghost use Rattle.stale_model.specs.Valid.{IsValidKey};
 
     /// All operations of the key, the initial write first.

@@ -11,11 +11,8 @@ use Rattle.stale_model.specs.declared.TwoPart.TheVariants.{Yes, No}
 use Rattle.stale_model.specs.declared.Verdict.{Verdict}
 use Rattle.stale_model.specs.declared.Verdict.TheVariants.{Duplicate, Unmatched, Infinite, Judged}
 use Rattle.stale_model.specs.Operations.{operations, is_write}
+use Rattle.stale_model.specs.NamedWrites.{value_of_record}
 use Rattle.staleness_report.specs.Escaped.{escaped}
-
--- the value of the operation with this record
-abbrev pub value_of_record : List Op → ℕ → ℕ
-value_of_record ops rec = option_map_or (λ a. a.value) (find (λ a. a.rec == rec) ops) 0
 
 -- the record of the write of this value
 abbrev pub write_of_value : List Op → ℕ → ℕ

@@ -1,31 +1,13 @@
 //! The lines of the keys: how many operations a key has, and its verdict.
-ghost use Rattle.std.specs.Prelude.{◌≡◌, ◌++◌, ◌∷◌, length, IfOk, OnOk};
+ghost use Rattle.std.specs.Prelude.{◌≡◌, ◌++◌, length, All, IfOk, OnOk};
 ghost use Rattle.std.specs.String.{string_bytes};
-ghost use Rattle.stale_model.specs.Operations.{initial_write};
-ghost use Rattle.staleness_report.specs.Report.{value_of_record, write_of_value, cluster_of_record, pair_text, two_text, verdict_text, key_line, key_lines};
+ghost use Rattle.stale_model.specs.Operations.{operations};
+ghost use Rattle.stale_model.specs.Valid.{IsValidKey};
+ghost use Rattle.staleness_report.specs.Report.{write_of_value, cluster_of_record, pair_text, two_text, verdict_text, key_line, key_lines};
 
 use crate::text::{escaped_name, push_count};
 use stale_model::{Four, Judgement, KeyOps, Kind, Op, TwoPart, Verdict};
 use std::alloc::{AllocError, Global};
-
-// The value of the operation with this record, of those but the initial write.
-fn value_among(ops: &[Op], rec: u32) -> u32
-    ensures { result ≡ value_of_record ops.now rec }
-{
-    for op in ops {
-        if op.rec == rec {
-            return op.value;
-        }
-    }
-    0
-}
-
-// The value of the operation with this record.
-fn value_of_record(ops: &[Op], rec: u32) -> u32
-    ensures { result ≡ value_of_record (initial_write ∷ ops.now) rec }
-{
-    if rec == 0 { 0 } else { value_among(ops, rec) }
-}
 
 // The record of the write of this value, of those but the initial write.
 fn write_among(ops: &[Op], value: u32) -> u32
@@ -40,33 +22,35 @@ fn write_among(ops: &[Op], value: u32) -> u32
 }
 
 // The record of the write of this value.
-fn write_of_value(ops: &[Op], value: u32) -> u32
-    ensures { result ≡ write_of_value (initial_write ∷ ops.now) value }
+fn write_of_value(key: &KeyOps, value: u32) -> u32
+    ensures { result ≡ write_of_value (operations key.now) value }
 {
     if value == 0 {
         0
     } else {
-        write_among(ops, value)
+        write_among(key.ops.as_slice(), value)
     }
 }
 
 // The write record of the cluster of the operation with this record.
-fn cluster_of_record(ops: &[Op], rec: u32) -> u32
-    ensures { result ≡ cluster_of_record (initial_write ∷ ops.now) rec }
+fn cluster_of_record(key: &KeyOps, rec: u32) -> u32
+    requires { IsValidKey key.now }
+    ensures { result ≡ cluster_of_record (operations key.now) rec }
 {
-    write_of_value(ops, value_of_record(ops, rec))
+    write_of_value(key, key.value_of(rec))
 }
 
 // Puts the pair that conflicts just below delta behind a text.
-fn push_pair(text: &mut String, ops: &[Op], four: &Option<Four>) -> Result<(), AllocError>
+fn push_pair(text: &mut String, key: &KeyOps, four: &Option<Four>) -> Result<(), AllocError>
+    requires { IsValidKey key.now }
     ensures { OnOk result (string_bytes text.new
-        ≡ string_bytes text.old ++ pair_text (initial_write ∷ ops.now) four.now) }
+        ≡ string_bytes text.old ++ pair_text (operations key.now) four.now) }
 {
     let Some(four) = four else {
         return Ok(());
     };
-    push_count(text, " pair ", u64::from(cluster_of_record(ops, four.p)))?;
-    push_count(text, " ", u64::from(cluster_of_record(ops, four.q)))
+    push_count(text, " pair ", u64::from(cluster_of_record(key, four.p)))?;
+    push_count(text, " ", u64::from(cluster_of_record(key, four.q)))
 }
 
 // Whether a key is 2-atomic.
@@ -80,40 +64,42 @@ fn two_text(two: &TwoPart) -> &'static str
 }
 
 // What is said of a judged key.
-fn judgement_text(alloc: Global, ops: &[Op], judgement: &Judgement) -> Result<String, AllocError>
+fn judgement_text(alloc: Global, key: &KeyOps, judgement: &Judgement) -> Result<String, AllocError>
+    requires { IsValidKey key.now }
     ensures { IfOk result (λ text.
-        string_bytes text ≡ verdict_text (initial_write ∷ ops.now) (Verdict.Judged judgement.now)) }
+        string_bytes text ≡ verdict_text (operations key.now) (Verdict.Judged judgement.now)) }
 {
     let mut text = String::new(alloc);
     push_count(&mut text, "delta ", judgement.delta)?;
-    push_pair(&mut text, ops, &judgement.four)?;
+    push_pair(&mut text, key, &judgement.four)?;
     text.push_str(two_text(&judgement.two))?;
     Ok(text)
 }
 
 // The end of a key's line.
-fn verdict_text(alloc: Global, ops: &[Op], verdict: &Verdict) -> Result<String, AllocError>
+fn verdict_text(alloc: Global, key: &KeyOps, verdict: &Verdict) -> Result<String, AllocError>
+    requires { IsValidKey key.now }
     ensures { IfOk result (λ text.
-        string_bytes text ≡ verdict_text (initial_write ∷ ops.now) verdict.now) }
+        string_bytes text ≡ verdict_text (operations key.now) verdict.now) }
 {
     match verdict {
         Verdict::Duplicate { rec } => format!(in alloc; "duplicate {rec}"),
         Verdict::Unmatched { rec } => format!(in alloc; "unmatched {rec}"),
         Verdict::Infinite { rec } => format!(in alloc; "infinite {rec} two no"),
-        Verdict::Judged(judgement) => judgement_text(alloc, ops, judgement),
+        Verdict::Judged(judgement) => judgement_text(alloc, key, judgement),
     }
 }
 
 // A key's line.
 fn key_line(alloc: Global, key: &KeyOps, verdict: &Verdict) -> Result<String, AllocError>
+    requires { IsValidKey key.now }
     ensures { IfOk result (λ text. string_bytes text ≡ key_line key.now verdict.now) }
 {
     let mut text = String::from_str(alloc, "key ")?;
     text.push_str(&escaped_name(alloc, key.name.as_slice())?)?;
-    let ops = key.ops.as_slice();
-    push_count(&mut text, " operations ", ops.len() as u64)?;
+    push_count(&mut text, " operations ", key.ops.as_slice().len() as u64)?;
     text.push_str(" ")?;
-    text.push_str(&verdict_text(alloc, ops, verdict)?)?;
+    text.push_str(&verdict_text(alloc, key, verdict)?)?;
     text.push_str("\n")?;
     Ok(text)
 }
@@ -124,7 +110,8 @@ pub(crate) fn key_lines(
     keys: &[KeyOps],
     verdicts: &[Verdict],
 ) -> Result<String, AllocError>
-    requires { length verdicts.now ≡ length keys.now }
+    requires valid { All IsValidKey keys.now }
+    requires as_many { length verdicts.now ≡ length keys.now }
     ensures { IfOk result (λ text. string_bytes text ≡ key_lines keys.now verdicts.now) }
 {
     let mut text = String::new(alloc);
