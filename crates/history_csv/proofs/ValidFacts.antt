@@ -89,12 +89,15 @@ records-rise vs es rise = λ k h.
     λ i lt. get_or-map _ (map (op_of vs) es) i (op_of vs no_entry) 0 (omega arith) ∙ ap (λ a. a.rec) (get_or-map (op_of vs) es i no_entry (op_of vs no_entry) lt) in
     rw (at k (omega arith), at (k + 1) next) (rise k (k + 1) no_entry (omega arith) next)
 
-key-valid : (es : List Entry) (n : List ℕ) → All IsGood es → AllPairs IsEarlier es → IsValidKey (key_ops es n)
-key-valid es n good rise =
+key-valid : (es : List Entry) (n : List ℕ) → All IsGood es → AllPairs IsEarlier es → length es ≤ 1000000 → IsValidKey (key_ops es n)
+key-valid es n good rise few =
     let on : Entry → Bool = λ e. bytes_eq n e.key in
+    let fewer = filter-shorter on es in
+    let as_many : length (ops_of (entries_on n es)) ≡ length (entries_on n es) = length-map (entries_on n es) (op_of (values_of (entries_on n es))) in
     record {
       ops = ops-valid (entries_on n es) (All-filter on IsGood es good);
       rising = records-rise (values_of (entries_on n es)) (entries_on n es) (AllPairs-filter IsEarlier on es rise);
+      few = omega arith;
     }
 
 -- the history of the entries of records is valid
@@ -111,7 +114,7 @@ history-valid records es are =
     let as_many_keys : length (keys_of (kept es)) ≡ length names = length-map names (key_ops (kept es)) in
     let as_many_ops = ops-as-many (kept es) in
     record {
-      keys = rw (history-keys es) (All-map IsValidKey (key_ops (kept es)) names (λ k d h. key-valid (kept es) (get_or names k d) good rise));
+      keys = rw (history-keys es) (All-map IsValidKey (key_ops (kept es)) names (λ k d h. key-valid (kept es) (get_or names k d) good rise (omega arith)));
       few_keys = rw (history-keys es) (omega arith);
       few_ops = rw (history-keys es) (omega arith);
     }

@@ -69,7 +69,7 @@ impl Model for KeyBuilder {
 
     ghost Value = { Contents };
 
-    ghost use Rattle.history_csv.specs.Building.{texts_of, keys_shown};
+    ghost use Rattle.history_csv.specs.Building.{texts_of};
 
     ghost view = { λ b. record { values = texts_of b.values.keys; ops = b.ops.items } };
 }
@@ -218,6 +218,7 @@ impl Model for HistoryBuilder {
 
     ghost Value = { History };
 
+    ghost use Rattle.history_csv.specs.Building.{keys_shown};
 
     ghost view = { λ b. record {
       keys = keys_shown b.keys.entries;
