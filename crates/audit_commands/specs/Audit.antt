@@ -1,14 +1,15 @@
 -- What an audit of a history file is, and what it writes.
-use Rattle.std.specs.Prelude.{◌≡◌, ◌⊎◌, ℕ, ◌≤◌, List, Ok, Result, OnOk, OnErr}
+use Rattle.std.specs.Prelude.{◌≡◌, ℕ, ◌≤◌, false, List, Ok, Err}
 use Rattle.stale_model.specs.declared.History.{History}
 use Rattle.stale_model.specs.declared.Verdict.{Verdict}
 use Rattle.stale_model.specs.PrintedVerdicts.{ArePrintedVerdicts}
 use Rattle.stale_model.specs.Truth.{EachKeyHas, IsTrueOf}
 use Rattle.audit_ports.specs.Shelf.{Shown, Rose}
 use Rattle.audit_ports.specs.Sink.{SinkShown, GainsPrefix, appended}
+use Rattle.history_csv.specs.declared.HistoryFault.{HistoryFault}
 use Rattle.history_csv.specs.Reading.{read_of}
 use Rattle.staleness_report.specs.Report.{report_text}
-use Rattle.audit_commands.specs.Input.{IsInput}
+use Rattle.audit_commands.specs.Input.{TakesInput}
 
 -- the greatest length of a history file, in bytes
 abbrev pub history_limit : ℕ
@@ -21,37 +22,28 @@ pub record Reports (history : History) (text : List ℕ) : Type 0 where
   pub truth : EachKeyHas IsTrueOf history.keys verdicts
   pub text_is : text ≡ report_text history verdicts
 
--- an output gained this text, or its count of faults rose and it gained a prefix
-pub record Prints {T E : Type 0} (text : List ℕ) (old : SinkShown) (result : Result T E) (new : SinkShown) : Type 0 where
-  pub keeps : old.faults ≤ new.faults
-  pub ok : OnOk result (new.written ≡ appended old.written text)
-  pub refused : OnErr result (GainsPrefix text old new)
-  pub failed : OnErr result (Rose old.faults new.faults)
-
--- this is the report of the audit of the history file of this name
-pub record IsReportOf (name : List ℕ) (shelf : Shown) (text : List ℕ) : Type 0 where
+-- the history file of this name was taken, and this is the report on the history that its bytes are
+pub record IsReportOf (name : List ℕ) (old new : Shown) (text : List ℕ) : Type 0 where
   pub bytes : List ℕ
-  pub input : IsInput history_limit name shelf bytes
+  pub input : TakesInput history_limit name old new bytes
   pub history : History
   pub reads : read_of bytes ≡ Ok history
   pub reports : Reports history text
 
--- the output gained exactly that report
-pub record WritesReport (name : List ℕ) (shelf : Shown) (old new : SinkShown) : Type 0 where
-  pub text : List ℕ
-  pub report : IsReportOf name shelf text
+-- the history file of this name was taken, and its bytes read as this fault
+pub record IsFaultOf (name : List ℕ) (old new : Shown) (fault : HistoryFault) : Type 0 where
+  pub bytes : List ℕ
+  pub input : TakesInput history_limit name old new bytes
+  pub reads : read_of bytes ≡ Err fault
+
+-- the output gained exactly this text, all of it was handed on, and no call failed
+pub record WritesWhole (text : List ℕ) (old new : SinkShown) : Type 0 where
   pub written : new.written ≡ appended old.written text
+  pub handed_on : new.pending ≡ false
+  pub faults : new.faults ≡ old.faults
 
--- the output gained a prefix of that report
-pub record WritesPart (name : List ℕ) (shelf : Shown) (old new : SinkShown) : Type 0 where
-  pub text : List ℕ
-  pub report : IsReportOf name shelf text
+-- a call of the output failed, and it gained a prefix of this text
+pub record WritesPart (text : List ℕ) (old new : SinkShown) : Type 0 where
   pub gains : GainsPrefix text old new
-
--- the output gained nothing
-abbrev pub KeepsOutput : SinkShown → SinkShown → Type 0
-KeepsOutput old new = new.written ≡ old.written
-
--- the output gained nothing, or a prefix of the report
-abbrev pub KeepsOrWritesPart : List ℕ → Shown → SinkShown → SinkShown → Type 0
-KeepsOrWritesPart name shelf old new = KeepsOutput old new ⊎ WritesPart name shelf old new
+  pub faults : Rose old.faults new.faults
+  pub keeps : old.faults ≤ new.faults

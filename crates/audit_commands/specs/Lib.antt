@@ -1,6 +1,8 @@
 pub mod Words
-pub mod Input
+pub mod Status
 pub mod Lines
+pub mod Input
 pub mod Audit
-pub mod Refusals
 pub mod Ends
+pub mod Steps
+pub mod Refusals

@@ -2,18 +2,14 @@
 
 ghost use Rattle.std.specs.Prelude.{◌≡◌, ◌⊎◌, ℕ, Ok, Err, IfOk, IfErr, OnErr, List};
 ghost use Rattle.stale_model.specs.Valid.{IsValidHistory};
-ghost use Rattle.stale_model.specs.PrintedVerdicts.{ArePrintedVerdicts};
-ghost use Rattle.stale_model.specs.declared.Verdict.{Verdict};
 ghost use Rattle.audit_ports.specs.Shelf.{KeepsFiles};
-ghost use Rattle.audit_ports.specs.Sink.{SinkShown};
-ghost use Rattle.history_csv.specs.Reading.{read_of};
-ghost use Rattle.staleness_report.specs.Report.{report_text};
-ghost use Rattle.audit_commands.specs.Input.{IsInput};
-ghost use Rattle.audit_commands.specs.Audit.{history_limit, Reports, Prints};
-ghost use Rattle.audit_commands.specs.Refusals.{IsRefused, ReadsAs, AuditEnds};
+ghost use Rattle.audit_commands.specs.Input.{TakesInput};
+ghost use Rattle.audit_commands.specs.Audit.{history_limit, Reports, IsReportOf};
+ghost use Rattle.audit_commands.specs.Steps.{TakesHistory, Prints};
+ghost use Rattle.audit_commands.specs.Refusals.{Shows, ReadsAs, AuditEnds};
 
 use crate::input::{TakeFault, take_file};
-use crate::refusal::Refusal;
+use crate::refusal::{Refusal, name_line};
 use audit_ports::{Failed, Gate, Shelf, Sink};
 use audit_workers::judge_all;
 use history_csv::{HistoryFault, read_history};
@@ -25,31 +21,41 @@ use std::thread::Threads;
 /// The greatest length of a history file, in bytes.
 const HISTORY_LIMIT: usize = 67_108_864;
 
-// The bytes of the history file of this name.
+// The bytes of the history file of this name. The line on a missing file is made first, so that a miss is said
+// whatever memory is left.
 fn take_history<S: Shelf>(alloc: Global, shelf: &mut S, name: &[u8]) -> Result<Vec<u8>, Refusal>
     ensures keeps { KeepsFiles (S.shown shelf.old) (S.shown shelf.new) }
-    ensures ok { IfOk result (λ bytes. IsInput history_limit name.now (S.shown shelf.old) bytes.items) }
-    ensures err { (out : SinkShown) → IfErr result (IsRefused name.now (S.shown shelf.old) (S.shown shelf.new) out out) }
+    ensures ok { IfOk result (λ bytes.
+        TakesInput history_limit name.now (S.shown shelf.old) (S.shown shelf.new) bytes.items) }
+    ensures err { IfErr result (Shows name.now (S.shown shelf.old) (S.shown shelf.new)) }
 {
-    match take_file(alloc, shelf, name, HISTORY_LIMIT) {
-        Ok(bytes) => Ok(bytes),
-        Err(TakeFault::Missing) => Err(Refusal::Missing),
+    let missing = name_line(alloc, "missing: ", name)?;
+    let mut bytes = Vec::new(alloc);
+    match take_file(shelf, name, HISTORY_LIMIT, &mut bytes) {
+        Ok(()) => Ok(bytes),
+        Err(TakeFault::Missing) => Err(Refusal::Missing(missing)),
         Err(TakeFault::Failed) => Err(Refusal::ReadFailed),
-        Err(TakeFault::TooLong) => Err(Refusal::TooLong),
+        Err(TakeFault::TooLong) => Err(Refusal::TooLong(name_line(alloc, "too long: ", name)?)),
         Err(TakeFault::Memory) => Err(Refusal::Memory),
     }
 }
 
-// The history that the bytes are.
-fn history_of(alloc: Global, bytes: &[u8]) -> Result<History, Refusal>
-    ensures valid { IfOk result IsValidHistory }
-    ensures reads { ReadsAs (read_of bytes.now) result }
+// The history that was read, or the refusal that its fault is.
+fn history_of(read: Result<History, HistoryFault>) -> Result<History, Refusal>
+    ensures { ReadsAs read result }
 {
-    match read_history(alloc, bytes) {
-        Ok(history) => Ok(history),
-        Err(HistoryFault::Memory) => Err(Refusal::Memory),
-        Err(fault) => Err(Refusal::History(fault)),
-    }
+    Ok(read?)
+}
+
+// The history in the file of this name. Its bytes are given back at the end.
+fn history_in<S: Shelf>(alloc: Global, shelf: &mut S, name: &[u8]) -> Result<History, Refusal>
+    ensures keeps { KeepsFiles (S.shown shelf.old) (S.shown shelf.new) }
+    ensures valid { IfOk result IsValidHistory }
+    ensures ok { IfOk result (TakesHistory name.now (S.shown shelf.old) (S.shown shelf.new)) }
+    ensures err { IfErr result (Shows name.now (S.shown shelf.old) (S.shown shelf.new)) }
+{
+    let bytes = take_history(alloc, shelf, name)?;
+    history_of(read_history(alloc, &bytes))
 }
 
 // The report on a history.
@@ -66,6 +72,22 @@ fn report_on<R: Threads + Sync, G: Gate>(
     report(alloc, history, verdicts.as_slice())
 }
 
+// The report on the history in the file of this name.
+fn report_of<R: Threads + Sync, S: Shelf, G: Gate>(
+    rt: &R,
+    alloc: Global,
+    name: &[u8],
+    shelf: &mut S,
+    gate: &G,
+) -> Result<Bytes, Refusal>
+    ensures keeps { KeepsFiles (S.shown shelf.old) (S.shown shelf.new) }
+    ensures ok { IfOk result (IsReportOf name.now (S.shown shelf.old) (S.shown shelf.new)) }
+    ensures err { IfErr result (Shows name.now (S.shown shelf.old) (S.shown shelf.new)) }
+{
+    let history = history_in(alloc, shelf, name)?;
+    Ok(report_on(rt, alloc, &history, gate)?)
+}
+
 // Writes the whole of an output, and hands it on.
 fn print<O: Sink>(out: &mut O, text: &[u8]) -> Result<(), Failed>
     ensures { Prints text.now (O.shown out.old) result (O.shown out.new) }
@@ -74,7 +96,7 @@ fn print<O: Sink>(out: &mut O, text: &[u8]) -> Result<(), Failed>
     out.flush()
 }
 
-/// Audits the history file of this name, and writes the report.
+/// Audits the history file of this name, and writes the report. The whole report is made before any of it is written.
 pub(crate) fn audit<R: Threads + Sync, S: Shelf, O: Sink, G: Gate>(
     rt: &R,
     alloc: Global,
@@ -83,13 +105,10 @@ pub(crate) fn audit<R: Threads + Sync, S: Shelf, O: Sink, G: Gate>(
     out: &mut O,
     gate: &G,
 ) -> Result<(), Refusal>
-    ensures { AuditEnds name.now (S.shown shelf.old) (S.shown shelf.new) (O.shown out.old) (O.shown out.new) result }
+    ensures { AuditEnds name.now (S.shown shelf.old) (S.shown shelf.new)
+        (O.shown out.old) (O.shown out.new) result }
 {
-    let bytes = take_history(alloc, shelf, name)?;
-    let history = history_of(alloc, &bytes)?;
-    let Ok(text) = report_on(rt, alloc, &history, gate) else {
-        return Err(Refusal::Memory);
-    };
+    let text = report_of(rt, alloc, name, shelf, gate)?;
     match print(out, text.as_slice()) {
         Ok(()) => Ok(()),
         Err(Failed) => Err(Refusal::WriteFailed),

@@ -1,11 +1,11 @@
 //! Takes the bytes of input files.
 
-ghost use Rattle.std.specs.Prelude.{◌≡◌, ℕ, ◌^◌, ◌<◌, ◌≤◌, IfOk, IsErrOf, length};
-ghost use Rattle.audit_ports.specs.Shelf.{KeepsFiles, Rose};
-ghost use Rattle.audit_commands.specs.Input.{IsInput, IsMissing, IsTooLong};
+ghost use Rattle.std.specs.Prelude.{◌≡◌, ◌+◌, ◌^◌, ◌<◌, [], OnOk, IsErrOf, vec_len, vec_capacity};
+ghost use Rattle.audit_ports.specs.Shelf.{KeepsFiles, KeepsCounts, Misses, FailsReading};
+ghost use Rattle.audit_commands.specs.Input.{TakesInput, IsTooLong};
 
-use audit_ports::{OpenFault, Shelf};
-use std::alloc::Global;
+use audit_ports::{Failed, OpenFault, Shelf};
+use std::alloc::AllocError;
 
 /// How many bytes are read at once.
 const PIECE: usize = 65536;
@@ -19,40 +19,79 @@ pub(crate) enum TakeFault {
     Memory,
 }
 
-/// The bytes of a file, if they are not more than the limit. Where they are more, the file stays open.
+impl From<OpenFault> for TakeFault {
+    ghost use Rattle.std.specs.Prelude.{◌≡◌};
+    ghost use Rattle.audit_commands.specs.Steps.{take_fault_of};
+
+    ghost from_gives = { λ fault taken. taken ≡ take_fault_of fault };
+
+    fn from(fault: OpenFault) -> TakeFault {
+        match fault {
+            OpenFault::Missing => TakeFault::Missing,
+            OpenFault::Failed => TakeFault::Failed,
+        }
+    }
+}
+
+impl From<Failed> for TakeFault {
+    ghost use Rattle.std.specs.Prelude.{◌≡◌};
+    ghost use Rattle.audit_commands.specs.declared.input.TakeFault.{TakeFault};
+
+    ghost from_gives = { λ _ taken. taken ≡ TakeFault.Failed };
+
+    fn from(_failed: Failed) -> TakeFault {
+        TakeFault::Failed
+    }
+}
+
+impl From<AllocError> for TakeFault {
+    ghost use Rattle.std.specs.Prelude.{◌≡◌};
+    ghost use Rattle.audit_commands.specs.declared.input.TakeFault.{TakeFault};
+
+    ghost from_gives = { λ _ taken. taken ≡ TakeFault.Memory };
+
+    fn from(_error: AllocError) -> TakeFault {
+        TakeFault::Memory
+    }
+}
+
+/// Takes all bytes of a file, if they are not more than the limit. Where the shelf answers each call, the file stays
+/// open behind the bytes that were taken. `Memory` comes only where the bytes have no room for another piece.
 pub(crate) fn take_file<S: Shelf>(
-    alloc: Global,
     shelf: &mut S,
     name: &[u8],
     limit: usize,
-) -> Result<Vec<u8>, TakeFault>
-    requires { limit < 2 ^ 32 }
+    bytes: &mut Vec<u8>,
+) -> Result<(), TakeFault>
+    requires limit { limit < 2 ^ 32 }
+    requires empty { bytes.old.items ≡ [] }
     ensures keeps { KeepsFiles (S.shown shelf.old) (S.shown shelf.new) }
-    ensures ok { IfOk result (λ bytes. IsInput limit name.now (S.shown shelf.old) bytes.items) }
-    ensures missing { IsErrOf result TakeFault.Missing → IsMissing name.now (S.shown shelf.old) (S.shown shelf.new) }
-    ensures failed { IsErrOf result TakeFault.Failed → Rose (S.shown shelf.old).read_faults (S.shown shelf.new).read_faults }
-    ensures too_long { IsErrOf result TakeFault.TooLong → IsTooLong limit name.now (S.shown shelf.old) (S.shown shelf.new) }
+    ensures ok { OnOk result (TakesInput limit name.now
+        (S.shown shelf.old) (S.shown shelf.new) bytes.new.items) }
+    ensures missing { IsErrOf result TakeFault.Missing →
+        Misses name.now (S.shown shelf.old) (S.shown shelf.new) }
+    ensures failed { IsErrOf result TakeFault.Failed →
+        FailsReading (S.shown shelf.old) (S.shown shelf.new) }
+    ensures too_long { IsErrOf result TakeFault.TooLong →
+        IsTooLong limit name.now (S.shown shelf.old) (S.shown shelf.new) }
+    ensures memory { IsErrOf result TakeFault.Memory →
+        KeepsCounts (S.shown shelf.old) (S.shown shelf.new) }
+    ensures full { IsErrOf result TakeFault.Memory →
+        vec_capacity bytes.new < vec_len bytes.new + PIECE }
 {
-    match shelf.open(name) {
-        Err(OpenFault::Missing) => return Err(TakeFault::Missing),
-        Err(OpenFault::Failed) => return Err(TakeFault::Failed),
-        Ok(()) => {}
-    }
-    let mut bytes = Vec::new(alloc);
+    shelf.open(name)?;
     let mut piece = [0u8; PIECE];
-    for _ in 0..u64::MAX {
-        let Ok(count) = shelf.read(&mut piece) else {
-            return Err(TakeFault::Failed);
-        };
+    // Each turn takes a byte at least, so one more turn than the limit has bytes is never passed.
+    for turn in 0..limit + 1 {
+        let count = shelf.read(&mut piece)?;
         if count == 0 {
-            return Ok(bytes);
+            return Ok(());
         }
-        if bytes.extend_from_slice(&piece[..count]).is_err() {
-            return Err(TakeFault::Memory);
-        }
+        bytes.reserve(count)?;
+        bytes.extend_from_slice(&piece[..count]).unwrap();
         if bytes.len() > limit {
             return Err(TakeFault::TooLong);
         }
     }
-    Err(TakeFault::Memory)
+    unreachable!()
 }

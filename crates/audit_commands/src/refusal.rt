@@ -1,29 +1,56 @@
-//! Why a command is refused, with its status and its line.
+//! Why an audit is refused, with the line and the status of each refusal.
 
-ghost use Rattle.std.specs.Prelude.{◌≡◌, ◌⊎◌, ◌++◌, IfOk, codes};
+ghost use Rattle.std.specs.Prelude.{◌≡◌, ◌≢◌, ◌++◌, Some, IfOk, codes};
 ghost use Rattle.std.specs.String.{string_bytes};
-ghost use Rattle.audit_commands.specs.Lines.{column_name, record_line, fault_line, missing_line, too_long_line, memory_line, SaysLine};
-ghost use Rattle.audit_commands.specs.Refusals.{status_of, line_of, Answers};
+ghost use Rattle.audit_commands.specs.Lines.{column_name, record_line, fault_line, memory_line, SaysLine};
+ghost use Rattle.audit_commands.specs.Refusals.{Says, SaysFault, Answers};
+ghost use Rattle.audit_commands.specs.Status.{number};
 ghost use Rattle.staleness_report.specs.Escaped.{escaped};
 
+use crate::status::Status;
 use audit_ports::Sink;
 use history_csv::HistoryFault;
 use stale_model::{Bytes, Memory};
 use staleness_report::escape;
 use std::alloc::{AllocError, Global};
 
-// The status of a want of memory.
-const OUT_OF_MEMORY: u8 = 10;
-
 /// Why an audit was refused.
-#[derive(Clone, Copy, Debug, PartialEq, Eq)]
+#[derive(Drop, Debug)]
 pub(crate) enum Refusal {
+    /// The history has this fault, which is no want of memory.
     History(HistoryFault),
-    Missing,
+    /// There is no such file. This is the line that says so.
+    Missing(Bytes),
     ReadFailed,
     WriteFailed,
-    TooLong,
+    /// The file is longer than the limit. This is the line that says so.
+    TooLong(Bytes),
     Memory,
+}
+
+impl From<HistoryFault> for Refusal {
+    ghost use Rattle.std.specs.Prelude.{◌≡◌};
+    ghost use Rattle.audit_commands.specs.Refusals.{refusal_of};
+
+    ghost from_gives = { λ fault refusal. refusal ≡ refusal_of fault };
+
+    fn from(fault: HistoryFault) -> Refusal {
+        match fault {
+            HistoryFault::Memory => Refusal::Memory,
+            fault => Refusal::History(fault),
+        }
+    }
+}
+
+impl From<Memory> for Refusal {
+    ghost use Rattle.std.specs.Prelude.{◌≡◌};
+    ghost use Rattle.audit_commands.specs.declared.refusal.Refusal.{Refusal};
+
+    ghost from_gives = { λ _ refusal. refusal ≡ Refusal.Memory };
+
+    fn from(_memory: Memory) -> Refusal {
+        Refusal::Memory
+    }
 }
 
 // The name of a column of a history, by its number.
@@ -55,7 +82,8 @@ fn record_line(alloc: Global, rec: u32, word: &str) -> Result<String, AllocError
 
 // The line on a column at fault.
 fn column_line(alloc: Global, number: u8) -> Result<String, AllocError>
-    ensures { IfOk result (λ line. string_bytes line ≡ fault_line (HistoryFault.Column number)) }
+    ensures { IfOk result (λ line.
+        Some (string_bytes line) ≡ fault_line (HistoryFault.Column number)) }
 {
     let mut line = String::from_str(alloc, "history: column ")?;
     line.push_str(column_name(number))?;
@@ -65,7 +93,8 @@ fn column_line(alloc: Global, number: u8) -> Result<String, AllocError>
 
 // The line on a fault of a history.
 fn fault_line(alloc: Global, fault: HistoryFault) -> Result<String, AllocError>
-    ensures { IfOk result (λ line. string_bytes line ≡ fault_line fault) }
+    requires { fault ≢ HistoryFault.Memory }
+    ensures { IfOk result (λ line. fault_line fault ≡ Some (string_bytes line)) }
 {
     match fault {
         HistoryFault::NoHeader => String::from_str(alloc, "history: no header\n"),
@@ -79,70 +108,68 @@ fn fault_line(alloc: Global, fault: HistoryFault) -> Result<String, AllocError>
         HistoryFault::Backwards { rec } => record_line(alloc, rec, "backwards"),
         HistoryFault::Slack { rec } => record_line(alloc, rec, "slack"),
         HistoryFault::Records => String::from_str(alloc, "history: more than 1000000 records\n"),
-        HistoryFault::Memory => String::from_str(alloc, "out of memory\n"),
+        HistoryFault::Memory => unreachable!(),
     }
 }
 
-// A line that ends with the name of a file.
-fn name_line(alloc: Global, label: &str, name: &[u8]) -> Result<Vec<u8>, AllocError>
-    ensures { IfOk result (λ line. line.items ≡ label.now ++ escaped name.now ++ codes "\n") }
+// A label, a name and the end of the line.
+fn name_line_of(alloc: Global, label: &str, name: &[u8]) -> Result<Vec<u8>, AllocError>
+    ensures { IfOk result (λ line. line.items ≡ label.now ++ name.now ++ codes "\n") }
 {
     let mut line = Vec::from_slice(alloc, label.as_bytes())?;
-    let Ok(name) = escape(alloc, name) else {
-        return Err(AllocError);
-    };
-    line.extend_from_slice(name.as_slice())?;
+    line.extend_from_slice(name)?;
     line.extend_from_slice(b"\n")?;
     Ok(line)
 }
 
-/// Writes a line. A failure changes nothing but the count of the sink.
-pub(crate) fn say<E: Sink>(err: &mut E, line: &[u8])
-    ensures { SaysLine line.now (E.shown err.old) (E.shown err.new) }
+/// A line that ends with the name of a file.
+pub(crate) fn name_line(alloc: Global, label: &str, name: &[u8]) -> Result<Bytes, Memory>
+    ensures { IfOk result (λ line. line ≡ label.now ++ escaped name.now ++ codes "\n") }
+{
+    let name = escape(alloc, name)?;
+    match name_line_of(alloc, label, name.as_slice()) {
+        Ok(line) => Ok(Bytes::from_vec(line)),
+        Err(_) => Err(Memory),
+    }
+}
+
+/// Writes a line, and gives the status that goes with it. A failure changes nothing but the count of the sink.
+pub(crate) fn end<E: Sink>(err: &mut E, line: &[u8], status: Status) -> Status
+    ensures { Says status line.now result (E.shown err.old) (E.shown err.new) }
 {
     let _ = err.write(line);
+    status
 }
 
-// The line of a refusal of an audit of the file of this name.
-fn refusal_line(alloc: Global, name: &[u8], refusal: Refusal) -> Result<Vec<u8>, AllocError>
-    ensures { IfOk result (λ line. line.items ≡ line_of name.now refusal) }
+/// Says that memory was wanting, and gives the status.
+pub(crate) fn end_without_memory<E: Sink>(err: &mut E) -> Status
+    ensures { Says Status.OutOfMemory memory_line result (E.shown err.old) (E.shown err.new) }
 {
-    match refusal {
-        Refusal::History(fault) => Ok(fault_line(alloc, fault)?.into_bytes()),
-        Refusal::Missing => name_line(alloc, "missing: ", name),
-        Refusal::ReadFailed => Vec::from_slice(alloc, b"read failed\n"),
-        Refusal::WriteFailed => Vec::from_slice(alloc, b"write failed\n"),
-        Refusal::TooLong => name_line(alloc, "too long: ", name),
-        Refusal::Memory => Vec::from_slice(alloc, b"out of memory\n"),
+    end(err, b"out of memory\n", Status::OutOfMemory)
+}
+
+// Says which fault a history has, and gives the status. The line takes memory.
+fn end_by_fault<E: Sink>(alloc: Global, fault: HistoryFault, err: &mut E) -> Status
+    requires { fault ≢ HistoryFault.Memory }
+    ensures { SaysFault fault result (E.shown err.old) (E.shown err.new) }
+{
+    match fault_line(alloc, fault) {
+        Ok(line) => end(err, line.as_bytes(), Status::HistoryRefused),
+        Err(_) => end_without_memory(err),
     }
 }
 
-// The status of a refusal.
-fn status_of(refusal: Refusal) -> u8
-    ensures { result ≡ status_of refusal }
+/// Writes the line of a refusal, and gives its status.
+pub(crate) fn refuse<E: Sink>(alloc: Global, refusal: Refusal, err: &mut E) -> Status
+    requires { refusal ≢ Refusal.History HistoryFault.Memory }
+    ensures { Answers refusal result (E.shown err.old) (E.shown err.new) }
 {
     match refusal {
-        Refusal::History(_) => 3,
-        Refusal::Missing => 5,
-        Refusal::ReadFailed => 6,
-        Refusal::WriteFailed => 7,
-        Refusal::TooLong => 8,
-        Refusal::Memory => OUT_OF_MEMORY,
-    }
-}
-
-/// Writes the line of a refusal of an audit of the file of this name, and gives its status.
-pub(crate) fn refuse<E: Sink>(alloc: Global, name: &[u8], refusal: Refusal, err: &mut E) -> u8
-    ensures { Answers name.now refusal result (E.shown err.old) (E.shown err.new) }
-{
-    match refusal_line(alloc, name, refusal) {
-        Ok(line) => {
-            say(err, &line);
-            status_of(refusal)
-        }
-        Err(_) => {
-            say(err, b"out of memory\n");
-            OUT_OF_MEMORY
-        }
+        Refusal::History(fault) => end_by_fault(alloc, fault, err),
+        Refusal::Missing(line) => end(err, line.as_slice(), Status::Missing),
+        Refusal::ReadFailed => end(err, b"read failed\n", Status::ReadFailed),
+        Refusal::WriteFailed => end(err, b"write failed\n", Status::WriteFailed),
+        Refusal::TooLong(line) => end(err, line.as_slice(), Status::TooLong),
+        Refusal::Memory => end_without_memory(err),
     }
 }

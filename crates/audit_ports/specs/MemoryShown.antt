@@ -38,4 +38,4 @@ sink_room sink = vec_capacity sink.written - vec_len sink.written
 
 -- what is known of a sink in memory: all of it
 abbrev pub memory_sink_shown : MemorySink → SinkShown
-memory_sink_shown sink = record { faults = sink.faults; written = Some (sink_bytes sink) }
+memory_sink_shown sink = record { faults = sink.faults; written = Some (sink_bytes sink); pending = sink.pending }

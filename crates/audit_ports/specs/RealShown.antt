@@ -9,9 +9,9 @@ use Rattle.audit_ports.specs.Sink.{SinkShown}
 abbrev pub real_shown : {R Dir File : Type 0} → RealShelf R Dir File → Shown
 real_shown shelf = record { read_faults = shelf.read_faults; write_faults = 0; misses = shelf.misses; files = None; reading = option_map (λ _. record { name = shelf.name.items; place = shelf.place }) shelf.file }
 
--- what is known of a real output: its count of faults alone
+-- what is known of a real output: its count of faults, and whether it is pending
 abbrev pub real_sink_shown : {W : Type 0} → RealSink W → SinkShown
-real_sink_shown sink = record { faults = sink.faults; written = None }
+real_sink_shown sink = record { faults = sink.faults; written = None; pending = sink.pending }
 
 -- the stream to which a real output passes all on
 abbrev pub stream_of : {W : Type 0} → RealSink W → W

@@ -46,20 +46,28 @@ pub record KeepsFiles (old new : Shown) : Type 0 where
   pub write_faults : old.write_faults ≤ new.write_faults
   pub misses : old.misses ≤ new.misses
 
+-- no count changed
+pub record KeepsCounts (old new : Shown) : Type 0 where
+  pub read_faults : new.read_faults ≡ old.read_faults
+  pub write_faults : new.write_faults ≡ old.write_faults
+  pub misses : new.misses ≡ old.misses
+
 -- the file of this name is open at its first byte, and where files are told it is among them
 pub record IsOpenAtStart (name : List ℕ) (new : Shown) : Type 0 where
   pub reading : new.reading ≡ Some (at_start name)
   pub there : IfSome new.files (λ files. IsSome (file_at files name))
 
--- a file was not there: the misses rose, the faults did not, and where files are told it isn't among them
+-- a file was not there: the misses rose and no other count, and where files are told it isn't among them
 pub record Misses (name : List ℕ) (old new : Shown) : Type 0 where
   pub misses : Rose old.misses new.misses
   pub read_faults : new.read_faults ≡ old.read_faults
+  pub write_faults : new.write_faults ≡ old.write_faults
   pub absent : IfSome new.files (λ files. file_at files name ≡ None)
 
--- a call of reading failed: its faults rose, and the misses did not
+-- a call of reading failed: its faults rose and no other count
 pub record FailsReading (old new : Shown) : Type 0 where
   pub read_faults : Rose old.read_faults new.read_faults
+  pub write_faults : new.write_faults ≡ old.write_faults
   pub misses : new.misses ≡ old.misses
 
 -- n bytes of the open file were read to the front of this buffer; no bytes exactly at the file's end
@@ -72,10 +80,8 @@ pub record TakesBytes (into : List ℕ) (old new : Shown) (n : ℕ) (reading : R
 -- opening the file of this name, with this result
 pub record Opens {T : Type 0} (name : List ℕ) (old : Shown) (result : Result T OpenFault) (new : Shown) : Type 0 where
   pub keeps : KeepsFiles old new
-  pub write_faults : new.write_faults ≡ old.write_faults
-  pub read_faults : OnOk result (new.read_faults ≡ old.read_faults)
-  pub misses : OnOk result (new.misses ≡ old.misses)
   pub ok : OnOk result (IsOpenAtStart name new)
+  pub counts : OnOk result (KeepsCounts old new)
   pub refused : OnErr result (new.reading ≡ None)
   pub missing : IsErrOf result Missing → Misses name old new
   pub failed : IsErrOf result Failed → FailsReading old new
@@ -83,9 +89,7 @@ pub record Opens {T : Type 0} (name : List ℕ) (old : Shown) (result : Result T
 -- reading the next bytes of the open file into a buffer, with this result
 pub record Reads {E : Type 0} (into : List ℕ) (old : Shown) (result : Result ℕ E) (new : Shown) : Type 0 where
   pub keeps : KeepsFiles old new
-  pub write_faults : new.write_faults ≡ old.write_faults
-  pub misses : new.misses ≡ old.misses
-  pub read_faults : OnOk result (new.read_faults ≡ old.read_faults)
   pub ok : IfOk result (λ n. IfSome old.reading (TakesBytes into old new n))
+  pub counts : OnOk result (KeepsCounts old new)
   pub refused : OnErr result (new.reading ≡ None)
-  pub failed : OnErr result (Rose old.read_faults new.read_faults)
+  pub failed : OnErr result (FailsReading old new)

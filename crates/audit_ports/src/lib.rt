@@ -46,16 +46,19 @@ pub trait Shelf {
         ensures { Reads into.new (shown self.old) result (shown self.new) };
 }
 
-/// An output. It counts its failures; the count never falls, and where it rises it stands still at 2^64 - 1.
+/// An output. It counts its failures; the count never falls, and where it rises it stands still at 2^64 - 1. It is
+/// pending from a write on, until a flush succeeds.
 pub trait Sink {
     /// What is known of it.
     ghost shown: { Self → SinkShown };
 
-    /// Appends a piece. `Failed` raises the count, and then a prefix of the piece may have been appended.
+    /// Appends a piece, and is pending. `Failed` raises the count, and then a prefix of the piece may have been
+    /// appended.
     fn write(&mut self, piece: &[u8]) -> Result<(), Failed>
         ensures { Writes piece.now (shown self.old) result (shown self.new) };
 
-    /// Hands on what was written, and changes none of it. `Failed` raises the count.
+    /// Hands on what was written, and changes none of it; then nothing is pending. `Failed` raises the count, and
+    /// leaves it pending where it was.
     fn flush(&mut self) -> Result<(), Failed>
         ensures { Flushes (shown self.old) result (shown self.new) };
 }

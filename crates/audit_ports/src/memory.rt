@@ -158,6 +158,7 @@ pub struct MemorySink {
     calls: Calls,
     faults: u64,
     written: Vec<u8>,
+    pending: bool,
 }
 
 impl MemorySink {
@@ -173,6 +174,7 @@ impl MemorySink {
             calls: Calls { counted: 0, fail },
             faults: 0,
             written: Vec::new(alloc),
+            pending: false,
         })
     }
 
@@ -201,6 +203,7 @@ impl Sink for MemorySink {
             (sink_room self.old < length piece.now)) }
         ensures refused { OnErr result (sink_bytes self.new ≡ sink_bytes self.old) }
     {
+        self.pending = true;
         if self.calls.count() || self.written.extend_from_slice(piece).is_err() {
             raise(&mut self.faults);
             return Err(Failed);
@@ -217,6 +220,7 @@ impl Sink for MemorySink {
             raise(&mut self.faults);
             return Err(Failed);
         }
+        self.pending = false;
         Ok(())
     }
 }

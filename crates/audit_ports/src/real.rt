@@ -1,5 +1,5 @@
 //! The real files and outputs: a few lines over std's, which tell nothing of what they hold.
-ghost use Rattle.std.specs.Prelude.{◌≡◌, IfOk, OnOk, None, IsErrOf, IsUtf8};
+ghost use Rattle.std.specs.Prelude.{◌≡◌, ◌≤◌, length, IfOk, OnOk, None, IsErrOf, IsUtf8};
 ghost use Rattle.std.specs.Io.KnownBytes.{Appends};
 ghost use Rattle.audit_ports.specs.Shelf.{fresh};
 ghost use Rattle.audit_ports.specs.Sink.{fresh_sink};
@@ -53,6 +53,13 @@ fn open_real<R: Files + AllocGlobal>(rt: &R, name: &[u8]) -> Result<(Vec<u8>, R:
     }
 }
 
+// Reads from a stream. Each error is a failure, an interruption too.
+pub(crate) fn read_stream<T: Read>(stream: &mut T, into: &mut [u8]) -> Result<usize, Failed>
+    ensures { IfOk result (λ count. count ≤ length into.new) }
+{
+    stream.read(into).map_err(|_| Failed)
+}
+
 impl<R: Files + AllocGlobal + Drop> Shelf for RealShelf<R> {
     ghost use Rattle.std.specs.Prelude.{IsErrOf, IsUtf8};
     ghost use Rattle.audit_ports.specs.Shelf.{Opens};
@@ -84,12 +91,12 @@ impl<R: Files + AllocGlobal + Drop> Shelf for RealShelf<R> {
     }
 
     fn read(&mut self, into: &mut [u8]) -> Result<usize, Failed> {
-        match self.file.as_mut().unwrap().read(into) {
+        match read_stream(self.file.as_mut().unwrap(), into) {
             Ok(count) => {
                 self.place = self.place.saturating_add(count as u64);
                 Ok(count)
             }
-            Err(_) => {
+            Err(Failed) => {
                 self.file = None;
                 raise(&mut self.read_faults);
                 Err(Failed)
@@ -98,11 +105,12 @@ impl<R: Files + AllocGlobal + Drop> Shelf for RealShelf<R> {
     }
 }
 
-/// An output of the process. It tells nothing of what was written.
+/// An output of the process. It tells nothing of what was written, but whether that was handed on.
 #[derive(Drop)]
 pub struct RealSink<W: Write + Drop> {
     stream: W,
     faults: u64,
+    pending: bool,
 }
 
 impl<W: Write + Drop> RealSink<W> {
@@ -112,7 +120,11 @@ impl<W: Write + Drop> RealSink<W> {
     pub fn over(stream: W) -> RealSink<W>
         ensures { real_sink_shown result ≡ fresh_sink None }
     {
-        RealSink { stream, faults: 0 }
+        RealSink {
+            stream,
+            faults: 0,
+            pending: false,
+        }
     }
 }
 
@@ -166,6 +178,7 @@ impl<W: Write + Drop> Sink for RealSink<W> {
         ensures stream { OnOk result (Appends (W.contents (stream_of self.old))
             (W.contents (stream_of self.new)) piece.now) }
     {
+        self.pending = true;
         let written = write_whole(&mut self.stream, piece);
         if written.is_err() {
             raise(&mut self.faults);
@@ -178,6 +191,7 @@ impl<W: Write + Drop> Sink for RealSink<W> {
             raise(&mut self.faults);
             return Err(Failed);
         }
+        self.pending = false;
         Ok(())
     }
 }

@@ -1,6 +1,7 @@
 //! The real files and outputs, of which no clause says what they hold.
+use crate::real::read_stream;
 use crate::{Failed, OpenFault, RealShelf, RealSink, Shelf, Sink};
-use std::io::{self, ErrorKind, Write};
+use std::io::{self, ErrorKind, Read, Write};
 use std::test::Fail;
 use std::{fs, process};
 
@@ -38,6 +39,85 @@ fn a_real_file_is_read_to_its_end(rt: HostRuntime) -> Result<(), Fail> {
     assert_eq!(rt; shelf.open(b"."), Ok(()));
     assert_eq!(rt; read_thrice(&mut shelf, b"."), Err(OpenFault::Failed));
     Ok(())
+}
+
+#[test]
+fn a_name_with_a_blank_at_its_end_is_another(rt: HostRuntime) -> Result<(), Fail> {
+    let name = format!(in rt.alloc(); "audit-ports-blank-{}", process::id(rt.process()))?;
+    let blank = format!(in rt.alloc(); "{name} ")?;
+    let mut shelf = RealShelf::over(rt);
+    fs::write(&rt, name.as_str(), b"abc".as_slice())?;
+    let absent = shelf.open(blank.as_bytes());
+    fs::write(&rt, blank.as_str(), b"xy".as_slice())?;
+    let there = read_thrice(&mut shelf, blank.as_bytes());
+    fs::remove_file(&rt, name.as_str())?;
+    fs::remove_file(&rt, blank.as_str())?;
+
+    assert_eq!(rt; absent, Err(OpenFault::Missing));
+    assert_eq!(rt; there, Ok(([2, 0, 0], *b"xy")));
+    Ok(())
+}
+
+// A stream whose first read is interrupted.
+#[derive(Drop)]
+struct Interrupted;
+
+impl Read for Interrupted {
+    fn read(&mut self, _buf: &mut [u8]) -> io::Result<usize> {
+        Err(io::Error::from(ErrorKind::Interrupted))
+    }
+}
+
+#[test]
+fn an_interrupted_read_is_not_the_end(rt: HostRuntime) {
+    assert_eq!(rt; read_stream(&mut Interrupted, &mut [0u8; 2]), Err(Failed));
+}
+
+// A stream that takes one byte a call, and counts its flushes.
+#[derive(Drop)]
+struct Narrow<'a> {
+    taken: &'a mut [u8; 4],
+    count: &'a mut usize,
+    flushes: &'a mut u32,
+}
+
+impl Write for Narrow<'_> {
+    fn write(&mut self, buf: &[u8]) -> io::Result<usize> {
+        match (buf.first(), self.taken.get_mut(*self.count)) {
+            (Some(byte), Some(place)) => {
+                *place = *byte;
+                *self.count += 1;
+                Ok(1)
+            }
+            _ => Ok(0),
+        }
+    }
+
+    fn flush(&mut self) -> io::Result<()> {
+        *self.flushes = self.flushes.saturating_add(1);
+        Ok(())
+    }
+}
+
+#[test]
+fn a_stream_that_takes_one_byte_a_call_gets_all(rt: HostRuntime) {
+    let (mut taken, mut count, mut flushes) = ([0u8; 4], 0, 0);
+    let mut sink = RealSink::over(Narrow {
+        taken: &mut taken,
+        count: &mut count,
+        flushes: &mut flushes,
+    });
+    // The first call is a flush, and it reaches the stream as each other does.
+    let first = sink.flush();
+    let whole = sink.write(b"abc");
+    let last = sink.flush();
+    let full = sink.write(b"de");
+    assert_eq!(rt;
+        (first, whole, last, full),
+        (Ok(()), Ok(()), Ok(()), Err(Failed))
+    );
+    drop(sink);
+    assert_eq!(rt; (taken, count, flushes), (*b"abcd", 4, 2));
 }
 
 // A stream that takes nothing.

@@ -2,16 +2,13 @@
 //! commands, and ends with the status that they give.
 #![tactic(auto)]
 
-use audit_commands::{Word, run_offline};
-use audit_ports::{OpenGate, RealShelf, RealSink, Sink};
+use audit_commands::{Word, refuse_for_memory, run_offline};
+use audit_ports::{OpenGate, RealShelf, RealSink};
 use stale_model::Memory;
 use std::env;
 use std::io::ErrorKind;
 use std::process::ExitCode;
 use std::rt::Env;
-
-// The status of a want of memory.
-const OUT_OF_MEMORY: u8 = 10;
 
 // The words after the program's name. Where one of them is no UTF-8 text there are none, which is refused as any
 // wrong words are.
@@ -36,8 +33,7 @@ fn main(rt: HostRuntime) -> ExitCode {
     let mut out = RealSink::output(rt);
     let mut err = RealSink::error(rt);
     let Ok(words) = words_of(&rt) else {
-        let _ = err.write(b"out of memory\n");
-        return ExitCode::from(OUT_OF_MEMORY);
+        return ExitCode::from(refuse_for_memory(&mut err));
     };
     ExitCode::from(run_offline(
         &rt,

@@ -1,11 +1,10 @@
 -- What the clusters of a clear key are, as the calls that judge it ask for them.
-use Rattle.std.proofs.Common.{◌≡◌, ℕ, ◌≤◌, List, Option, Some, None, get_or, refl, sym, inl, inr, subst, arith}
+use Rattle.std.proofs.Common.{◌≡◌, ℕ, ◌≤◌, List, get_or, refl, sym, inl, inr, subst, arith}
 use Rattle.std.specs.Prelude.{All, Contains}
 use Rattle.std.proofs.lemmas.Bool.{cases_lt}
 use Rattle.std.proofs.lemmas.List.{get_or_default}
 use Rattle.stale_model.specs.declared.Op.{Op}
 use Rattle.stale_model.specs.declared.Cluster.{Cluster}
-use Rattle.stale_model.specs.declared.Four.{Four}
 use Rattle.stale_model.specs.declared.KeyOps.{KeyOps}
 use Rattle.stale_model.specs.Operations.{operations, IsWrite, earliest_start, latest_finish}
 use Rattle.stale_model.specs.Valid.{IsValidKey}
@@ -13,11 +12,11 @@ use Rattle.stale_model.specs.Faults.{IsWriteOf, IsClearKey}
 use Rattle.stale_model.specs.Clusters.{AreClusters}
 use Rattle.stale_model.specs.Orders.{ListsEachOnce}
 use Rattle.stale_model.specs.OperationOrders.{IsOperationOrder}
-use Rattle.stale_model.specs.PrintedVerdicts.{IsPrintedJudgement, IsPrintedFour, IsPrintedTwo}
+use Rattle.stale_model.specs.PrintedVerdicts.{IsPrintedJudgement, IsPrintedTwo}
 use Rattle.stale_model.specs.declared.TwoPart.{TwoPart}
 use Rattle.zones.specs.Sweeps.{IsOrderOf}
 use Rattle.model_laws.proofs.Named.{matched_keys_name_their_writes}
-use Rattle.model_laws.proofs.OrderPlaces.{reads_or_writes}
+use Rattle.stale_model.proofs.ReadsAndWrites.{reads_or_writes}
 use Rattle.delta_score.specs.declared.least.Least.{Least}
 use Rattle.delta_score.specs.Scores.{IsLeast}
 use Rattle.delta_score.specs.WriteLists.{write_records}

@@ -1,31 +1,17 @@
 -- What is answered for the clusters lists each write once.
-use Rattle.std.proofs.Common.{◌≡◌, ℕ, List, sym, ◌∙◌, arith}
+use Rattle.std.proofs.Common.{◌≡◌, ℕ, List, sym, ◌∙◌}
 use Rattle.std.proofs.lemmas.List.Sorted.{IsPermutation-refl}
 use Rattle.stale_model.specs.declared.Op.{Op}
 use Rattle.stale_model.specs.declared.Cluster.{Cluster}
-use Rattle.stale_model.specs.declared.KeyOps.{KeyOps}
-use Rattle.stale_model.specs.declared.TwoPart.{TwoPart}
-use Rattle.stale_model.specs.declared.TwoPart.TheVariants.{Yes, No}
-use Rattle.stale_model.specs.Operations.{operations}
-use Rattle.stale_model.specs.Valid.{IsValidKey}
-use Rattle.stale_model.specs.Faults.{IsClearKey}
 use Rattle.stale_model.specs.Clusters.{AreClusters, writes_of}
 use Rattle.stale_model.specs.Orders.{ListsEachOnce}
-use Rattle.stale_model.specs.PrintedVerdicts.{IsPrintedTwo}
-use Rattle.stale_model.specs.Truth.{TwoHolds}
-use Rattle.model_laws.proofs.Named.{matched_keys_name_their_writes}
-use Rattle.model_laws.proofs.Refuted.{refutations_exclude_orders}
 use Rattle.stale_model.proofs.ClustersOne.{cluster_writes_differ}
-use Rattle.stale_model.proofs.Places.{contains_at}
+use Rattle.stale_model.proofs.Places.{contains_at, write_there}
 use Rattle.stale_model.proofs.Sorted.{one_by_number}
 use Rattle.delta_score.specs.WriteLists.{write_records}
 use Rattle.delta_score.proofs.ListedWrites.{clusters_list_writes}
-use Rattle.delta_score.proofs.ListingOrders.{listings_are_orders}
 use Rattle.lbt_epochs.specs.TwoLaws.{AreListed}
-use Rattle.lbt_epochs.proofs.ListedEpochs.{listings_are_answered}
-use Rattle.lbt_epochs.proofs.RefutedAnswers.{refutations_are_answered}
 use Rattle.lbt_epochs.proofs.RefutedClusters.{cluster_at_write, member_of_write}
-use Rattle.stale_model.proofs.Places.{write_there}
 
 -- a listing of the clusters lists each write once
 pub listing_lists_writes : (ops : List Op) (clusters listing : List Cluster) → AreClusters ops clusters → ListsEachOnce clusters listing

@@ -11,7 +11,6 @@ use Rattle.stale_model.specs.Valid.{IsValidKey}
 use Rattle.stale_model.specs.Faults.{IsDuplicate, IsUnmatched, IsEarly}
 use Rattle.stale_model.specs.PrintedVerdicts.{IsPrintedOrder, IsPrintedTwo, ArePrintedVerdicts, IsPrintedJudgement, IsPrintedFour}
 use Rattle.stale_model.specs.Zones.{IsFourOfPair}
-use Rattle.model_laws.proofs.Named.{matched_keys_name_their_writes}
 use Rattle.model_laws.proofs.One.{least_deltas_are_one, printed_orders_are_one, printed_fours_are_one, printed_twos_are_one}
 use Rattle.stale_model.proofs.ClustersOne.{clusters_are_one, cluster_writes_differ}
 use Rattle.model_laws.proofs.ClustersOne.{valid_records_differ}

@@ -1,5 +1,5 @@
 -- The theorem on 2-atomicity, and that each valid key has a verdict.
-use Rattle.std.proofs.Common.{◌≡◌, ℕ, zero, suc, ◌-◌, List, Option, Some, None, refl, sym, inl, inr, arith}
+use Rattle.std.proofs.Common.{◌≡◌, ℕ, zero, suc, ◌-◌, List, Option, Some, None, refl, inl, inr, arith}
 use Rattle.stale_model.specs.declared.Op.{Op}
 use Rattle.stale_model.specs.declared.KeyOps.{KeyOps}
 use Rattle.stale_model.specs.declared.Cluster.{Cluster}
@@ -15,7 +15,6 @@ use Rattle.stale_model.specs.Operations.{operations}
 use Rattle.stale_model.specs.Valid.{IsValidKey}
 use Rattle.stale_model.specs.Faults.{IsClearKey, IsMatchedKey}
 use Rattle.stale_model.specs.LeastDelta.{HasOrder}
-use Rattle.stale_model.specs.Orders.{IsOrder}
 use Rattle.stale_model.specs.Clusters.{AreClusters, WriteRecordsDiffer, writes_of}
 use Rattle.stale_model.specs.Zones.{four_of}
 use Rattle.stale_model.specs.Chains.{IsAnswer}
@@ -36,7 +35,7 @@ use Rattle.lbt_epochs.specs.TwoLaws.{HasListing, IsYes}
 use Rattle.lbt_epochs.proofs.AnswersThere.{answers_exist}
 use Rattle.lbt_epochs.proofs.ListedEpochs.{listings_are_answered}
 use Rattle.lbt_epochs.proofs.RefutedAnswers.{refutations_are_answered}
-use Rattle.audit_workers.specs.Laws.{TwoTheorem, YesIsExact, VerdictExists, CanBeListed}
+use Rattle.audit_workers.specs.Laws.{TwoTheorem, YesIsExact, VerdictExists}
 use Rattle.audit_workers.proofs.Clear.{starts_by_finish}
 
 module _ (key : KeyOps) (d : ℕ) (clusters : List Cluster) (valid : IsValidKey key) (matched : IsMatchedKey (operations key)) (are : AreClusters (operations key) clusters) where
@@ -62,9 +61,10 @@ pub two_theorem : TwoTheorem
 two_theorem key d clusters valid matched are = (
   λ has.
       let (two, answer) = answers_exist d clusters in
-      let (order, is) = has in
-      (λ r early. early_reads_exclude_orders (operations key) 2 r (matched_keys_name_their_writes key valid matched) early d order is,
-      listing_of_yes key d clusters valid matched are two answer (yes_of_order key d clusters valid matched are has two answer)),
+      let (order, is) = has in (
+        λ r early. early_reads_exclude_orders (operations key) 2 r (matched_keys_name_their_writes key valid matched) early d order is,
+        listing_of_yes key d clusters valid matched are two answer (yes_of_order key d clusters valid matched are has two answer),
+      ),
   λ (no_early, has). order_of_listing key d clusters valid matched are (record { matched = matched; no_early = no_early }) has,
 )
 
@@ -99,9 +99,10 @@ judgement_exists key clusters valid clear are =
     let (zones, zone_order) = zone_orders_exist delta clusters in
     let (order, in_order) = operation_orders_exist ops delta 1 (writes_of zones) in
     let (four, is_four) = four_exists clusters delta differ least in
-    let (two, is_two) = two_exists ops clusters in
-    (record { delta = delta; order = order; four = four; two = two },
-    record { clear = clear; clusters = clusters; are = are; no_conflict = least.apart; order = record { zones = zones; zone_order = zone_order; operation_order = in_order }; four = is_four; two = is_two })
+    let (two, is_two) = two_exists ops clusters in (
+      record { delta = delta; order = order; four = four; two = two },
+      record { clear = clear; clusters = clusters; are = are; no_conflict = least.apart; order = record { zones = zones; zone_order = zone_order; operation_order = in_order }; four = is_four; two = is_two },
+    )
 
 verdict_of_sorting : (key : KeyOps) → IsValidKey key → (sorted : Sorted) → IsSorting (operations key) sorted → (verdict : Verdict) × IsPrintedVerdict (operations key) verdict
 verdict_of_sorting key valid (Sorted.TheVariants.Duplicate rec) is = (Duplicate rec, is)

@@ -17,9 +17,9 @@ use Rattle.stale_model.specs.Faults.{IsDuplicate, IsUnmatched, IsClearKey}
 use Rattle.stale_model.specs.Clusters.{AreClusters}
 use Rattle.stale_model.specs.NamedWrites.{NamesItsWrites}
 use Rattle.stale_model.specs.Zones.{IsFourOfPair}
-use Rattle.stale_model.specs.Shown.{FourHold, FourShow, ShowsDelta, ShowsTwo, ShowsJudgement, IsShown}
+use Rattle.stale_model.specs.Shown.{FourHold, FourShow, ShowsDelta, ShowsTwo, ShowsJudgement}
 use Rattle.stale_model.specs.PrintedVerdicts.{IsPrintedTwo, IsPrintedJudgement, IsPrintedFour, IsPrintedVerdict, ArePrintedVerdicts}
-use Rattle.stale_model.specs.Truth.{IsTrueOf, EachKeyHas}
+use Rattle.stale_model.specs.Truth.{EachKeyHas}
 use Rattle.stale_model.proofs.ClustersOne.{cluster_writes_differ}
 use Rattle.model_laws.proofs.Named.{matched_keys_name_their_writes}
 use Rattle.model_laws.proofs.ShownTrue.{shown_verdicts_are_true}

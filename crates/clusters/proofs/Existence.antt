@@ -20,6 +20,7 @@ use Rattle.stale_model.specs.Operations.{IsRead, IsWrite, operations, records_of
 use Rattle.stale_model.specs.Valid.{IsValidKey}
 use Rattle.stale_model.specs.Faults.{IsWriteOf, IsDuplicate, IsUnmatched, IsEarly, HasNone, IsLeastRecord, IsMatchedKey}
 use Rattle.stale_model.specs.Clusters.{IsLeastFinish, AreReadsOf, IsClusterOf, AreClusters, writes_of}
+use Rattle.stale_model.proofs.ReadsAndWrites.{kinds}
 use Rattle.stale_model.proofs.Places.{something_at, contains_at, place_of, same_at}
 use Rattle.clusters.specs.declared.Sorted.{Sorted}
 use Rattle.clusters.specs.declared.Sorted.TheVariants.{Duplicate, Unmatched, Early, Clear}
@@ -33,17 +34,13 @@ use Rattle.clusters.proofs.Ordering.{AreClusters-from_table}
 read_is_no_write : {k : Kind} → k ≡ Read → k ≡ Write → ⊥
 read_is_no_write r w = both_ways false refl (ap is_write_kind (sym r ∙ w))
 
-decide_kind : (k : Kind) → (k ≡ Read) ⊎ (k ≡ Write)
-decide_kind Read = inl refl
-decide_kind Write = inr refl
-
 -- a is of this kind and has what can be decided
 decide_write : (a : Op) (More : Type 0) → More ⊎ (More → ⊥) → (IsWrite a × More) ⊎ (IsWrite a × More → ⊥)
-decide_write a More (inl more) = elim (decide_kind a.kind) [ inl r ↦ inr (λ h. read_is_no_write r h.0) | inr w ↦ inl (w, more) ]
+decide_write a More (inl more) = elim (kinds a.kind) [ inl r ↦ inr (λ h. read_is_no_write r h.0) | inr w ↦ inl (w, more) ]
 decide_write a More (inr not) = inr (λ h. not h.1)
 
 decide_read : (a : Op) (More : Type 0) → More ⊎ (More → ⊥) → (IsRead a × More) ⊎ (IsRead a × More → ⊥)
-decide_read a More (inl more) = elim (decide_kind a.kind) [ inl r ↦ inl (r, more) | inr w ↦ inr (λ h. read_is_no_write h.0 w) ]
+decide_read a More (inl more) = elim (kinds a.kind) [ inl r ↦ inl (r, more) | inr w ↦ inr (λ h. read_is_no_write h.0 w) ]
 decide_read a More (inr not) = inr (λ h. not h.1)
 
 decide_both : (A B : Type 0) → A ⊎ (A → ⊥) → B ⊎ (B → ⊥) → (A × B) ⊎ (A × B → ⊥)

@@ -12,7 +12,7 @@ use Rattle.stale_model.specs.Orders.{StandsAt}
 use Rattle.stale_model.proofs.Places.{contains_at, at_its_place, something_at, stands_mapped}
 use Rattle.stale_model.proofs.Sorted.{permuted_no_repeats}
 use Rattle.stale_model.proofs.ClustersOne.{cluster_writes_differ}
-use Rattle.model_laws.proofs.KindTests.{kind_is_write}
+use Rattle.stale_model.proofs.ReadsAndWrites.{kind_is_write}
 use Rattle.model_laws.proofs.Listings.{origin, origin_stands, passes_at, keeps}
 use Rattle.delta_score.specs.WriteLists.{write_records}
 use Rattle.delta_score.specs.ZoneLaws.{ClustersListWrites}

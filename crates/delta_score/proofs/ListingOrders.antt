@@ -18,7 +18,7 @@ use Rattle.stale_model.specs.Zones.{reads_start, HasNoCrossing}
 use Rattle.stale_model.specs.Orders.{StandsAt, ListsEachOnce, is_write_record, IsAmongLast, IsOrder}
 use Rattle.stale_model.specs.OperationOrders.{write_place, segment, operation_order, IsOperationOrder}
 use Rattle.model_laws.proofs.Named.{matched_keys_name_their_writes}
-use Rattle.model_laws.proofs.OrderPlaces.{reads_or_writes}
+use Rattle.stale_model.proofs.ReadsAndWrites.{reads_or_writes}
 use Rattle.stale_model.proofs.Places.{same_at}
 use Rattle.stale_model.proofs.Sorted.{no_repeats_from_map, permuted_no_repeats}
 use Rattle.stale_model.proofs.ClustersOne.{cluster_writes_differ}

@@ -18,7 +18,7 @@ use Rattle.stale_model.specs.Orders.{is_write_record, IsAmongLast, IsOrder, List
 use Rattle.stale_model.specs.OperationOrders.{write_place, segment, operation_order}
 use Rattle.stale_model.specs.Zones.{HasNoCrossing}
 use Rattle.model_laws.proofs.Named.{matched_keys_name_their_writes}
-use Rattle.model_laws.proofs.OrderPlaces.{reads_or_writes}
+use Rattle.stale_model.proofs.ReadsAndWrites.{reads_or_writes}
 use Rattle.delta_score.specs.ZoneLaws.{ZoneOrdersAreOrders}
 use Rattle.model_laws.proofs.Between.{starts_by}
 use Rattle.model_laws.proofs.ClustersOne.{valid_records_differ}

@@ -26,11 +26,11 @@ ok-of-fault : {X Y : Type 0} (fault : HistoryFault) (o : Option X) (next : X →
 ok-of-fault fault None next y e = cc
 ok-of-fault fault (Some x) next y e = (x, refl, e)
 
-ok-of-next : {X Y : Type 0} (r : Result X HistoryFault) (next : X → Result Y HistoryFault) (y : Y) → then_next r next ≡ Ok y → (x : X) × (r ≡ Ok x) × (next x ≡ Ok y)
+pub ok-of-next : {X Y : Type 0} (r : Result X HistoryFault) (next : X → Result Y HistoryFault) (y : Y) → then_next r next ≡ Ok y → (x : X) × (r ≡ Ok x) × (next x ≡ Ok y)
 ok-of-next (Err fault) next y e = cc
 ok-of-next (Ok x) next y e = (x, refl, e)
 
-ok_of : {X : Type 0} (x y : X) → (let r : Result X HistoryFault = Ok x in r) ≡ Ok y → x ≡ y
+pub ok_of : {X : Type 0} (x y : X) → (let r : Result X HistoryFault = Ok x in r) ≡ Ok y → x ≡ y
 ok_of x y e = cc
 
 within : (least most : ℕ) (o : Option ℕ) (n : ℕ) → number_within least most o ≡ Some n → (least ≤ n) × (n ≤ most)
@@ -109,7 +109,7 @@ pub record AreEntries (rec : ℕ) (records : List (List (List ℕ))) (es : List 
   pub as_many : length es ≡ length records
   pub few : rec + length es ≤ most_records + 1
 
-behind-one : (e : Entry) (r : Result (List Entry) HistoryFault) (es : List Entry) → behind (e ∷ []) r ≡ Ok es → (more : List Entry) × (r ≡ Ok more) × (e ∷ more ≡ es)
+pub behind-one : (e : Entry) (r : Result (List Entry) HistoryFault) (es : List Entry) → behind (e ∷ []) r ≡ Ok es → (more : List Entry) × (r ≡ Ok more) × (e ∷ more ≡ es)
 behind-one e (Err fault) es h = cc
 behind-one e (Ok more) es h = (more, refl, ok_of (e ∷ more) es h)
 

@@ -1,10 +1,10 @@
 -- The fields of a record by place.
-use Rattle.std.proofs.Common.{◌≡◌, ℕ, zero, suc, List, [], ◌∷◌, None, get_or, refl}
+use Rattle.std.proofs.Common.{◌≡◌, ℕ, zero, suc, ◌<◌, List, [], ◌∷◌, None, length, arith}
 use Rattle.csv.specs.Records.{field_at}
 
--- past the last field there is the empty one
-pub field-past : (fields : List (List ℕ)) (i : ℕ) → field_at fields i ≡ None → get_or fields i [] ≡ []
+-- within a record there is a field
+pub field-within : (fields : List (List ℕ)) (i : ℕ) → i < length fields → field_at fields i ≡ None → ⊥
 unfolding field_at
-field-past [] i e = refl
-field-past (f ∷ fs) zero e = cc
-field-past (f ∷ fs) (suc i) e = field-past fs i e
+field-within [] i within e = omega arith
+field-within (f ∷ fs) zero within e = cc
+field-within (f ∷ fs) (suc i) within e = field-within fs i (omega arith) e

@@ -13,9 +13,9 @@ use Rattle.history_csv.specs.Numbering.{Contents, contents_of, distinct, is_fill
 use Rattle.history_csv.specs.Building.{with_value}
 use Rattle.history_csv.proofs.Distinct.{any-distinct, bytes_eq-itself, distinct-push}
 
--- the values that entries write and read
-abbrev values_in : List Entry → List (List ℕ)
-values_in entries = map (λ entry. entry.value) entries
+-- the value that an entry writes or reads
+abbrev value_in : Entry → List ℕ
+value_in entry = entry.value
 
 -- ---- the values
 
@@ -24,7 +24,7 @@ filled-push xs [] = ap distinct (filter-append is_filled xs ([] ∷ []) ∙ appe
 filled-push xs (b ∷ v) = ap distinct (filter-append is_filled xs ((b ∷ v) ∷ [])) ∙ distinct-push (filter is_filled xs) (b ∷ v)
 
 pub values-push : (es : List Entry) (e : Entry) → values_of (es ++ e ∷ []) ≡ with_value (values_of es) e.value
-values-push es e = ap (λ vs. distinct (filter is_filled vs)) (map_push (λ (x : Entry). x.value) es e) ∙ filled-push (values_in es) e.value
+values-push es e = ap (λ vs. distinct (filter is_filled vs)) (map_push (λ (x : Entry). x.value) es e) ∙ filled-push (map value_in es) e.value
 
 -- ---- a number stays where more values come
 
@@ -73,12 +73,12 @@ or-true' false = refl
 
 value-known : (front : List Entry) (e : Entry) (es : List Entry) → IsKnown (values_of (front ++ e ∷ es)) e.value
 value-known front e es filled =
-    let vs = values_in (front ++ e ∷ es) in
-    let split : filter is_filled vs ≡ filter is_filled (values_in front) ++ filter is_filled (values_in (e ∷ es)) =
-    ap (filter is_filled) (map-append (λ (x : Entry). x.value) front (e ∷ es)) ∙ filter-append is_filled (values_in front) (values_in (e ∷ es)) in
-    let head : filter is_filled (values_in (e ∷ es)) ≡ e.value ∷ filter is_filled (values_in es) = rw filled refl in
-    let there : list_any (bytes_eq e.value) (e.value ∷ filter is_filled (values_in es)) ≡ true = rw (bytes_eq-itself e.value) refl in
-    any-distinct e.value (filter is_filled vs) ∙ rw (split, head, list_any-append (bytes_eq e.value) (filter is_filled (values_in front)) (e.value ∷ filter is_filled (values_in es)), there) (or-true' (list_any (bytes_eq e.value) (filter is_filled (values_in front))))
+    let vs = map value_in (front ++ e ∷ es) in
+    let split : filter is_filled vs ≡ filter is_filled (map value_in front) ++ filter is_filled (map value_in (e ∷ es)) =
+    ap (filter is_filled) (map-append (λ (x : Entry). x.value) front (e ∷ es)) ∙ filter-append is_filled (map value_in front) (map value_in (e ∷ es)) in
+    let head : filter is_filled (map value_in (e ∷ es)) ≡ e.value ∷ filter is_filled (map value_in es) = rw filled refl in
+    let there : list_any (bytes_eq e.value) (e.value ∷ filter is_filled (map value_in es)) ≡ true = rw (bytes_eq-itself e.value) refl in
+    any-distinct e.value (filter is_filled vs) ∙ rw (split, head, list_any-append (bytes_eq e.value) (filter is_filled (map value_in front)) (e.value ∷ filter is_filled (map value_in es)), there) (or-true' (list_any (bytes_eq e.value) (filter is_filled (map value_in front))))
 
 -- each value of the entries is among their values, where more entries come before them
 pub each-known : (front es : List Entry) → AllByRecursion (λ e. IsKnown (values_of (front ++ es)) e.value) es
@@ -131,7 +131,7 @@ distinct-shorter (n ∷ ns) =
 -- a key has at most as many values as entries
 pub values-few : (es : List Entry) → length (values_of es) ≤ length es
 values-few es =
-    let names = distinct-shorter (filter is_filled (values_in es)) in
-    let filled = filter-shorter is_filled (values_in es) in
-    let mapped : length (values_in es) ≡ length es = length-map es (λ (x : Entry). x.value) in
+    let names = distinct-shorter (filter is_filled (map value_in es)) in
+    let filled = filter-shorter is_filled (map value_in es) in
+    let mapped : length (map value_in es) ≡ length es = length-map es (λ (x : Entry). x.value) in
     omega arith

@@ -1,7 +1,7 @@
 -- One read of a record, in the words of what is left to read.
 use Rattle.std.proofs.Common.{◌≡◌, ℕ, Bool, true, false, List, [], ◌∷◌, Some, Bor, refl, ◌∙◌, inl}
 use Rattle.csv.specs.Machine.{Read}
-use Rattle.csv.specs.Reading.{default_config, ReadRecord, Reached, took_first}
+use Rattle.csv.specs.Reading.{is_flexible, default_config, ReadRecord, Reached, took_first}
 use Rattle.csv.specs.declared.parser.State.{State}
 use Rattle.csv.proofs.ReadFacts.{rows-more, rows-end}
 use Rattle.history_csv.specs.Records.{BytesReader, IsReading, Takes, bytes_left, records_left}
@@ -19,13 +19,13 @@ one_more a b f h r =
     (z, at_z, rw source (rest-some default_config a.state y p next ∙ joined p f b.state z same state rest))
 
 -- what a read of a record shows, as the records that are left
-pub takes : (a b : BytesReader) (found : Bool) (f : List (List ℕ)) → IsReading a → took_first b ≡ true → ReadRecord (λ s. Some s.now) a b found f → Takes a found f b
-takes a b true f h first r =
+pub takes : (a b : BytesReader) (found : Bool) (f : List (List ℕ)) → IsReading a → took_first b ≡ true → is_flexible b ≡ is_flexible a → ReadRecord (λ s. Some s.now) a b found f → Takes a found f b
+takes a b true f h first flexible r =
     let (z, at_z, left) = one_more a b f h r in
     let after : records_left b ≡ rest_of default_config b.state z = rw at_z refl in (
       rw after left,
-      record { untrimmed = r.3 ∙ h.untrimmed; ready = inl first; default = r.2 ∙ h.default; known = (z, at_z) },
+      record { untrimmed = r.3 ∙ h.untrimmed; ready = inl first; default = r.2 ∙ h.default; flexible = flexible ∙ h.flexible; known = (z, at_z) },
     )
-takes a b false f h first r =
+takes a b false f h first flexible r =
     let (y, source) = h.known in
     rw source (rest-none default_config a.state y (rows-end (λ (s : Bor (List ℕ)). Some s.now) a b f default_config y h.default source r))

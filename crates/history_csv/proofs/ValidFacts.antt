@@ -14,7 +14,8 @@ use Rattle.history_csv.specs.declared.HistoryFault.{HistoryFault}
 use Rattle.history_csv.specs.declared.HistoryFault.TheVariants.{Memory}
 use Rattle.history_csv.specs.declared.header.Columns.{Columns}
 use Rattle.history_csv.specs.Fault.{then_next}
-use Rattle.history_csv.specs.Reading.{history_after}
+use Rattle.history_csv.specs.Header.{columns_of}
+use Rattle.history_csv.specs.Reading.{history_after, history_of_records}
 use Rattle.history_csv.specs.Entries.{Entry, entries_from}
 use Rattle.history_csv.specs.Numbering.{distinct, entries_on, history_of, is_skipped, kept, key_ops, keys_of, never, op_of, ops_of, value_number, values_of}
 use Rattle.history_csv.proofs.Counts.{ops-as-many}
@@ -117,11 +118,20 @@ history-valid records es are =
 
 -- ---- what is read, by the entries that it comes from
 
-module _ (columns : Columns) (records : List (List (List ℕ))) (P : History → Type 0) (shows : (es : List Entry) → AreEntries 1 records es → P (history_of es)) where
-  shows-at : (r : Result (List Entry) HistoryFault) → entries_from columns 1 records ≡ r → IfOk (then_next r (λ es. Ok (history_of es))) P
-  shows-at (Ok es) e = shows es (entries-said columns 1 records es (omega arith) e)
-  shows-at (Err fault) e = tt
+module _ (records : List (List (List ℕ))) (P : History → Type 0)
+    (shows : (header : List (List ℕ)) (rest : List (List (List ℕ))) (es : List Entry) → records ≡ header ∷ rest → AreEntries 1 rest es → P (history_of es)) where
+  entries-show : (header : List (List ℕ)) (rest : List (List (List ℕ))) (columns : Columns) → records ≡ header ∷ rest → (r : Result (List Entry) HistoryFault) → entries_from columns 1 rest ≡ r → IfOk (then_next r (λ es. Ok (history_of es))) P
+  entries-show header rest columns are (Ok es) e = shows header rest es are (entries-said columns 1 rest es (omega arith) e)
+  entries-show header rest columns are (Err fault) e = tt
 
-  pub history_after-shows : (r : Result History HistoryFault) → (r ≡ Err Memory) ⊎ (r ≡ history_after columns records) → IfOk r P
-  history_after-shows r (inl memory) = rw memory tt
-  history_after-shows r (inr read) = rw read (shows-at (entries_from columns 1 records) refl)
+  columns-show : (header : List (List ℕ)) (rest : List (List (List ℕ))) → records ≡ header ∷ rest → (r : Result Columns HistoryFault) → IfOk (then_next r (λ columns. history_after columns rest)) P
+  columns-show header rest are (Ok columns) = entries-show header rest columns are (entries_from columns 1 rest) refl
+  columns-show header rest are (Err fault) = tt
+
+  records-show : (rs : List (List (List ℕ))) → records ≡ rs → IfOk (history_of_records rs) P
+  records-show [] are = tt
+  records-show (header ∷ rest) are = columns-show header rest are (columns_of header)
+
+  pub history-shows : (r : Result History HistoryFault) → (r ≡ Err Memory) ⊎ (r ≡ history_of_records records) → IfOk r P
+  history-shows r (inl memory) = rw memory tt
+  history-shows r (inr read) = rw read (records-show records refl)

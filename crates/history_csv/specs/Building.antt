@@ -1,9 +1,20 @@
--- What the code holds while it reads: maps whose keys are texts, seen as lists of texts.
-use Rattle.std.specs.Prelude.{ℕ, if◌then◌else◌, List, [], ◌∷◌, ◌++◌, map, Vec}
+-- What serves the code alone: where columns stand, and maps whose keys are texts, seen as lists of texts.
+use Rattle.std.specs.Prelude.{ℕ, ◌<◌, IfSome, if◌then◌else◌, List, [], ◌∷◌, ◌++◌, map, Vec}
 use Rattle.std.specs.List.{list_any}
 use Rattle.std.specs.Str.{bytes_eq}
 use Rattle.stale_model.specs.declared.KeyOps.{KeyOps}
+use Rattle.history_csv.specs.declared.header.Columns.{Columns}
 use Rattle.history_csv.specs.Numbering.{Contents, contents_of, named, is_filled}
+
+-- each column stands within the fields of a record
+pub record StandsWithin (columns : Columns) : Type 0 where
+  pub client : columns.client < columns.fields
+  pub op : columns.op < columns.fields
+  pub key : columns.key < columns.fields
+  pub value : columns.value < columns.fields
+  pub start : columns.start < columns.fields
+  pub finish : columns.finish < columns.fields
+  pub slack : IfSome columns.slack (λ place. place < columns.fields)
 
 -- the texts of these buffers
 abbrev pub texts_of : {A : Type 0} → List (Vec ℕ A) → List (List ℕ)

@@ -45,12 +45,12 @@ abbrev pub is_digit : ℕ → Bool
 is_digit byte = nat_le 48 byte && nat_le byte 57
 
 -- the number that digits say
-abbrev pub decimal : List ℕ → ℕ
-decimal digits = fold (λ number digit. 10 * number + (digit - 48)) 0 digits
+abbrev pub number_from_digits : List ℕ → ℕ
+number_from_digits digits = fold (λ number digit. 10 * number + (digit - 48)) 0 digits
 
 -- the number of a text of 1 to this many digits
 abbrev pub number_of : ℕ → List ℕ → Option ℕ
-number_of most text = if has_length 1 most text && list_all is_digit text then Some (decimal text) else None
+number_of most text = if has_length 1 most text && list_all is_digit text then Some (number_from_digits text) else None
 
 -- a number of from least to most
 abbrev pub number_within : ℕ → ℕ → Option ℕ → Option ℕ

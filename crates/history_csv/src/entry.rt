@@ -1,8 +1,9 @@
 //! One record of a history file.
-ghost use Rattle.std.specs.Prelude.{◌≡◌, ◌≤◌, option_map};
+ghost use Rattle.std.specs.Prelude.{◌≡◌, ◌<◌, ◌≤◌, length, option_map, IfSome};
 ghost use Rattle.csv.specs.Records.{fields_of};
 ghost use Rattle.history_csv.specs.Entries.{text_of, number_of, number_within, kind_of, client_of, value_of, tick_of, finish_of, finish_after, slack_of, slack_at, entry_of};
 ghost use Rattle.history_csv.specs.Numbering.{is_skipped};
+ghost use Rattle.history_csv.specs.Building.{StandsWithin};
 
 use crate::HistoryFault;
 use crate::header::{Columns, field};
@@ -10,7 +11,7 @@ use csv::ByteRecord;
 use stale_model::Kind;
 use std::marker::Model;
 
-/// The greatest tick, and the greatest slack.
+// The greatest tick, and the greatest slack.
 const GREATEST_TICK: u64 = 4_611_686_018_427_387_903;
 
 /// What a record says. Contracts see its key and its value as texts.
@@ -32,7 +33,16 @@ impl<'r> Model for Entry<'r> {
 
     ghost Value = { Entry };
 
-    ghost view = { λ e. record { rec = e.rec; client = e.client; kind = e.kind; key = e.key.now; value = e.value.now; start = e.start; finish = e.finish; slack = e.slack } };
+    ghost view = { λ e. record {
+      rec = e.rec;
+      client = e.client;
+      kind = e.kind;
+      key = e.key.now;
+      value = e.value.now;
+      start = e.start;
+      finish = e.finish;
+      slack = e.slack;
+    } };
 }
 
 impl<'r> Entry<'r> {
@@ -47,7 +57,7 @@ impl<'r> Entry<'r> {
     }
 }
 
-/// The text, if it has from `least` to `most` bytes.
+// The text, if it has from `least` to `most` bytes.
 fn text_within(text: &[u8], least: usize, most: usize) -> Option<&[u8]>
     ensures { option_map (λ t. t.now) result ≡ text_of least most text.now }
 {
@@ -58,7 +68,7 @@ fn text_within(text: &[u8], least: usize, most: usize) -> Option<&[u8]>
     }
 }
 
-/// The number of a text of 1 to `most` digits.
+// The number of a text of 1 to `most` digits.
 fn number(text: &[u8], most: usize) -> Option<u64>
     requires { most ≤ 19 }
     ensures { result ≡ number_of most text.now }
@@ -76,7 +86,7 @@ fn number(text: &[u8], most: usize) -> Option<u64>
     Some(number)
 }
 
-/// The number of a text of 1 to 19 digits, if it is from `least` to `most`.
+// The number of a text of 1 to 19 digits, if it is from `least` to `most`.
 fn number_within(text: &[u8], least: u64, most: u64) -> Option<u64>
     ensures { result ≡ number_within least most (number_of 19 text.now) }
 {
@@ -88,7 +98,7 @@ fn number_within(text: &[u8], least: u64, most: u64) -> Option<u64>
     }
 }
 
-/// What one of the four words of `op` says.
+// What one of the four words of `op` says.
 fn kind_of(text: &[u8]) -> Option<Kind>
     ensures { result ≡ kind_of text.now }
 {
@@ -101,7 +111,7 @@ fn kind_of(text: &[u8]) -> Option<Kind>
     }
 }
 
-/// A client: 1 to 10 digits, a number of 32 bits.
+// A client: 1 to 10 digits, a number of 32 bits.
 fn client_of(text: &[u8]) -> Option<u32>
     ensures { result ≡ client_of text.now }
 {
@@ -113,7 +123,7 @@ fn client_of(text: &[u8]) -> Option<u32>
     }
 }
 
-/// A value: at most 256 bytes, of which a write has at least 1.
+// A value: at most 256 bytes, of which a write has at least 1.
 fn value_of(kind: Kind, text: &[u8]) -> Option<&[u8]>
     ensures { option_map (λ t. t.now) result ≡ value_of kind text.now }
 {
@@ -123,14 +133,14 @@ fn value_of(kind: Kind, text: &[u8]) -> Option<&[u8]>
     }
 }
 
-/// A tick.
+// A tick.
 fn tick_of(text: &[u8]) -> Option<u64>
     ensures { result ≡ tick_of text.now }
 {
     number_within(text, 1, GREATEST_TICK)
 }
 
-/// A finish: a tick, or empty where the operation never finished.
+// A finish: a tick, or empty where the operation never finished.
 fn finish_of(text: &[u8]) -> Option<Option<u64>>
     ensures { result ≡ finish_of text.now }
 {
@@ -141,7 +151,7 @@ fn finish_of(text: &[u8]) -> Option<Option<u64>>
     Some(Some(tick))
 }
 
-/// The finish, if it is not before the start.
+// The finish, if it is not before the start.
 fn finish_after(start: u64, finish: Option<u64>) -> Option<Option<u64>>
     ensures { result ≡ finish_after start finish }
 {
@@ -152,7 +162,7 @@ fn finish_after(start: u64, finish: Option<u64>) -> Option<Option<u64>>
     }
 }
 
-/// A slack, which is none where it is empty.
+// A slack, which is none where it is empty.
 fn slack_of(text: &[u8]) -> Option<u64>
     ensures { result ≡ slack_of text.now }
 {
@@ -162,8 +172,9 @@ fn slack_of(text: &[u8]) -> Option<u64>
     number_within(text, 0, GREATEST_TICK)
 }
 
-/// The slack of a record, which is none where there is no such column.
+// The slack of a record, which is none where there is no such column.
 fn slack_at(place: Option<usize>, row: &ByteRecord) -> Option<u64>
+    requires { IfSome place (λ place. place < length (fields_of row.now)) }
     ensures { result ≡ slack_at place (fields_of row.now) }
 {
     match place {
@@ -179,6 +190,7 @@ pub(crate) fn entry_of<'r>(
     rec: u32,
     row: &'r ByteRecord,
 ) -> Result<Entry<'r>, HistoryFault>
+    requires { StandsWithin columns.now }
     ensures { result ≡ entry_of columns.now rec (fields_of row.now) }
 {
     if row.len() != columns.fields {

@@ -1,10 +1,13 @@
 //! Reads histories: CSV files with one operation a record.
 #![tactic(auto)]
 
-ghost use Rattle.std.specs.Prelude.{◌≡◌, ◌≢◌, ◌+◌, ◌⊎◌, Err, length, sum_by, IfOk};
+ghost use Rattle.std.specs.Prelude.{◌≡◌, ◌≢◌, ℕ, ◌+◌, ◌⊎◌, [], length, sum_by, IfOk, IfErr, OnOk};
 ghost use Rattle.stale_model.specs.Valid.{IsValidHistory};
-ghost use Rattle.history_csv.specs.Reading.{read_of, records_of, history_after};
-ghost use Rattle.history_csv.specs.Records.{IsReading, records_left};
+ghost use Rattle.history_csv.specs.Header.{IsColumn};
+ghost use Rattle.history_csv.specs.Numbering.{history_of};
+ghost use Rattle.history_csv.specs.Building.{StandsWithin};
+ghost use Rattle.history_csv.specs.Reading.{read_of, records_of, history_of_records, history_after};
+ghost use Rattle.history_csv.specs.Records.{IsReading, WantsMemory, records_left};
 
 mod entry;
 mod header;
@@ -12,6 +15,7 @@ mod numbering;
 mod records;
 
 use crate::entry::entry_of;
+pub use crate::header::column_name;
 use crate::header::{Columns, columns_of};
 use crate::numbering::HistoryBuilder;
 use crate::records::{read_next, reader_of};
@@ -19,7 +23,7 @@ use csv::{ByteRecord, Reader};
 use stale_model::{History, Memory};
 use std::alloc::Global;
 
-/// The greatest number of records after the header.
+// The greatest number of records after the header.
 const MOST_RECORDS: u32 = 1_000_000;
 
 /// Why a history was not read. A record's number counts from 1, after the header.
@@ -27,8 +31,8 @@ const MOST_RECORDS: u32 = 1_000_000;
 pub enum HistoryFault {
     /// There is no record at all, so no header.
     NoHeader,
-    /// The header does not name this column exactly once, or `slack` more than once. The columns are
-    /// numbered 1 to 7: client, op, key, value, start, finish and slack.
+    /// The header does not name this column exactly once, or `slack` more than once. The columns
+    /// are numbered 1 to 7, and `column_name` gives the name of each.
     Column { name: u8 },
     /// The record has another number of fields than the header.
     Fields { rec: u32 },
@@ -63,37 +67,67 @@ impl From<Memory> for HistoryFault {
     }
 }
 
-/// Reads the records after the header.
-fn read_records(
+// Takes the records after the header into a history.
+fn take_records(
+    history: &mut HistoryBuilder,
     alloc: Global,
     columns: &Columns,
     reader: &mut Reader<&[u8]>,
     row: &mut ByteRecord,
-) -> Result<History, HistoryFault>
-    requires { IsReading reader.old }
-    ensures { (result ≡ Err HistoryFault.Memory) ⊎ (result ≡ history_after columns.now (records_left reader.old)) }
+) -> Result<(), HistoryFault>
+    requires reading { IsReading reader.old }
+    requires within { StandsWithin columns.now }
+    requires empty { history.old ≡ history_of [] }
+    ensures takes { OnOk result
+        (history_after columns.now (records_left reader.old) ≡ Ok history.new) }
+    ensures fault { IfErr result (λ fault. (fault ≡ HistoryFault.Memory)
+        ⊎ (history_after columns.now (records_left reader.old) ≡ Err fault)) }
+    ensures memory { result ≡ Err HistoryFault.Memory
+        → WantsMemory (history_after columns.now) reader.old reader.new }
 {
-    let mut history = HistoryBuilder::new(alloc);
     for rec in 1..MOST_RECORDS + 1 {
         if !read_next(reader, row)? {
-            return Ok(history.finish(alloc)?);
+            return Ok(());
         }
         let entry = entry_of(columns, rec, row)?;
         history.add(alloc, &entry)?;
     }
     if read_next(reader, row)? {
-        return Err(HistoryFault::Records);
+        Err(HistoryFault::Records)
+    } else {
+        Ok(())
     }
+}
+
+// Reads all records, the first of which is the header.
+fn read_records(
+    alloc: Global,
+    reader: &mut Reader<&[u8]>,
+    row: &mut ByteRecord,
+) -> Result<History, HistoryFault>
+    requires { IsReading reader.old }
+    ensures read { (result ≡ Err HistoryFault.Memory)
+        ⊎ (result ≡ history_of_records (records_left reader.old)) }
+    ensures memory { result ≡ Err HistoryFault.Memory
+        → WantsMemory history_of_records reader.old reader.new }
+{
+    if !read_next(reader, row)? {
+        return Err(HistoryFault::NoHeader);
+    }
+    let columns = columns_of(row)?;
+    let mut history = HistoryBuilder::new(alloc);
+    take_records(&mut history, alloc, &columns, reader, row)?;
     Ok(history.finish(alloc)?)
 }
 
 /// Reads a history.
 ///
-/// The bytes are records of fields between commas, where quotes may stand round a field, after at most
-/// one byte order mark. The first record is the header. It names the columns `client`, `op`, `key`,
-/// `value`, `start` and `finish` in any order, once each, and may name `slack`. Columns of other names
-/// are not looked at. Keys, and the values of each key, are numbered by first appearance. A read with no
-/// finish is checked like any other record and then left out, and counts in `skipped`.
+/// The bytes are records of fields between commas, where quotes may stand round a field, after at
+/// most one byte order mark. The first record is the header. It names the columns `client`, `op`,
+/// `key`, `value`, `start` and `finish` in any order, once each, and may name `slack`. Columns of
+/// other names are not looked at. Keys, and the values of each key, are numbered by first
+/// appearance. A read with no finish is checked like any other record and then left out, and counts
+/// in `skipped`.
 ///
 /// # Errors
 /// The first of: a fault of the header, and the fault of the first record at fault, in the order of
@@ -103,17 +137,15 @@ fn read_records(
 pub fn read_history(alloc: Global, bytes: &[u8]) -> Result<History, HistoryFault>
     ensures read { (result ≡ Err HistoryFault.Memory) ⊎ (result ≡ read_of bytes.now) }
     ensures definite { read_of bytes.now ≢ Err HistoryFault.Memory }
+    ensures column { (name : ℕ) → result ≡ Err (HistoryFault.Column name) → IsColumn name }
     ensures valid { IfOk result IsValidHistory }
     ensures records { IfOk result (λ history. history.records + 1 ≡ length (records_of bytes.now)) }
-    ensures skipped { IfOk result (λ history. history.skipped + sum_by (λ key. length key.ops) history.keys ≡ history.records) }
+    ensures skipped { IfOk result (λ history.
+        history.skipped + sum_by (λ key. length key.ops) history.keys ≡ history.records) }
 {
     let mut reader = reader_of(alloc, bytes);
     let mut row = ByteRecord::new(alloc);
-    if !read_next(&mut reader, &mut row)? {
-        return Err(HistoryFault::NoHeader);
-    }
-    let columns = columns_of(&row)?;
-    read_records(alloc, &columns, &mut reader, &mut row)
+    read_records(alloc, &mut reader, &mut row)
 }
 
 #[cfg(test)]

@@ -12,10 +12,10 @@ use stale_model::{Bytes, History, KeyOps, List, Memory, Op};
 use std::alloc::Global;
 use std::marker::Model;
 
-/// The tick at which a write that never finished counts as finished.
+// The tick at which a write that never finished counts as finished.
 const NEVER: u64 = 9_223_372_036_854_775_808;
 
-/// A copy of a text.
+// A copy of a text.
 fn copy_of(alloc: Global, text: &[u8]) -> Result<Vec<u8>, Memory>
     ensures { IfOk result (λ copy. copy.items ≡ text.now) }
 {
@@ -25,7 +25,7 @@ fn copy_of(alloc: Global, text: &[u8]) -> Result<Vec<u8>, Memory>
     Ok(copy)
 }
 
-/// The place of a text among texts.
+// The place of a text among texts.
 fn find(texts: &IndexSet<Vec<u8>>, text: &[u8]) -> Option<usize>
     ensures { result ≡ position (bytes_eq text.now) (texts_of texts.now.keys) }
 {
@@ -39,10 +39,12 @@ fn find(texts: &IndexSet<Vec<u8>>, text: &[u8]) -> Option<usize>
     texts.get_index_of(text)
 }
 
-/// The place of a text among texts, which is put at their end if it is new.
+// The place of a text among texts, which is put at their end if it is new.
 fn place_of(texts: &mut IndexSet<Vec<u8>>, alloc: Global, text: &[u8]) -> Result<usize, Memory>
-    ensures place { IfOk result (λ place. place ≡ position_or_len (bytes_eq text.now) (texts_of texts.old.keys)) }
-    ensures texts { OnOk result (texts_of texts.new.keys ≡ with_text (texts_of texts.old.keys) text.now) }
+    ensures place { IfOk result (λ place.
+        place ≡ position_or_len (bytes_eq text.now) (texts_of texts.old.keys)) }
+    ensures texts { OnOk result
+        (texts_of texts.new.keys ≡ with_text (texts_of texts.old.keys) text.now) }
 {
     if let Some(place) = find(texts, text) {
         return Ok(place);
@@ -73,7 +75,7 @@ impl Model for KeyBuilder {
 }
 
 impl KeyBuilder {
-    /// A key with no entries yet.
+    // A key with no entries yet.
     fn new(alloc: Global) -> KeyBuilder
         ensures { result ≡ contents_of [] }
     {
@@ -83,7 +85,7 @@ impl KeyBuilder {
         }
     }
 
-    /// The number of a value, which is a new one where the value is.
+    // The number of a value, which is a new one where the value is.
     fn number(&mut self, alloc: Global, value: &[u8]) -> Result<u32, Memory>
         requires { length self.old.values < most_records }
         ensures number { IfOk result (λ number. number ≡ value_number self.old.values value.now) }
@@ -97,10 +99,12 @@ impl KeyBuilder {
         Ok(place as u32 + 1)
     }
 
-    /// Takes one more entry of the key.
+    // Takes one more entry of the key.
     fn add(&mut self, alloc: Global, entry: &Entry) -> Result<(), Memory>
-        requires { (entries : List Entry) × (self.old ≡ contents_of entries) × (length entries < most_records) }
-        ensures { OnOk result ((entries : List Entry) → self.old ≡ contents_of entries → self.new ≡ contents_of (entries ++ entry.now ∷ [])) }
+        requires { (entries : List Entry) × (self.old ≡ contents_of entries)
+            × (length entries < most_records) }
+        ensures { OnOk result ((entries : List Entry) → self.old ≡ contents_of entries
+            → self.new ≡ contents_of (entries ++ entry.now ∷ [])) }
     {
         let value = self.number(alloc, entry.value)?;
         let op = Op {
@@ -118,7 +122,7 @@ impl KeyBuilder {
         Ok(())
     }
 
-    /// The key of this name, to keep.
+    // The key of this name, to keep.
     fn finish(self, alloc: Global, name: Vec<u8>) -> Result<KeyOps, Memory>
         ensures { IfOk result (λ key. key ≡ named name.items self) }
     {
@@ -131,7 +135,7 @@ impl KeyBuilder {
     }
 }
 
-/// The texts of a set, moved and not copied.
+// The texts of a set, moved and not copied.
 fn texts(alloc: Global, set: IndexSet<Vec<u8>>) -> Result<List<Bytes>, Memory>
     ensures { IfOk result (λ texts. texts ≡ texts_of set.keys) }
 {
@@ -146,14 +150,17 @@ fn texts(alloc: Global, set: IndexSet<Vec<u8>>) -> Result<List<Bytes>, Memory>
     Ok(List::from_vec(texts))
 }
 
-/// The place of a key of this name, which is a new one, with no entries, if there was none.
+// The place of a key of this name, which is a new one, with no entries, if there was none.
 fn place_of_key(
     keys: &mut IndexMap<Vec<u8>, KeyBuilder>,
     alloc: Global,
     name: &[u8],
 ) -> Result<usize, Memory>
-    ensures place { IfOk result (λ place. place ≡ position_or_len (λ key. bytes_eq name.now key.name) (keys_shown keys.old.entries)) }
-    ensures keys { OnOk result (keys_shown keys.new.entries ≡ with_key (keys_shown keys.old.entries) name.now) }
+    ensures place { IfOk result (λ place.
+        place
+        ≡ position_or_len (λ key. bytes_eq name.now key.name) (keys_shown keys.old.entries)) }
+    ensures keys { OnOk result
+        (keys_shown keys.new.entries ≡ with_key (keys_shown keys.old.entries) name.now) }
 {
     if let Some(place) = keys.get_index_of(name) {
         return Ok(place);
@@ -166,21 +173,23 @@ fn place_of_key(
     Ok(place)
 }
 
-/// Takes one more entry of one of the keys.
+// Takes one more entry of one of the keys.
 fn add_to_key(
     keys: &mut IndexMap<Vec<u8>, KeyBuilder>,
     alloc: Global,
     entry: &Entry,
 ) -> Result<(), Memory>
-    requires { (entries : List Entry) × (keys_shown keys.old.entries ≡ keys_of entries) × (length entries < most_records) }
-    ensures { OnOk result ((entries : List Entry) → keys_shown keys.old.entries ≡ keys_of entries → keys_shown keys.new.entries ≡ keys_of (entries ++ entry.now ∷ [])) }
+    requires { (entries : List Entry) × (keys_shown keys.old.entries ≡ keys_of entries)
+        × (length entries < most_records) }
+    ensures { OnOk result ((entries : List Entry) → keys_shown keys.old.entries ≡ keys_of entries
+        → keys_shown keys.new.entries ≡ keys_of (entries ++ entry.now ∷ [])) }
 {
     let place = place_of_key(keys, alloc, entry.key)?;
     let key = &mut keys[place];
     key.add(alloc, entry)
 }
 
-/// The keys, moved and not copied.
+// The keys, moved and not copied.
 fn finished(alloc: Global, keys: IndexMap<Vec<u8>, KeyBuilder>) -> Result<List<KeyOps>, Memory>
     ensures { IfOk result (λ finished. finished ≡ keys_shown keys.entries) }
 {
@@ -210,7 +219,11 @@ impl Model for HistoryBuilder {
     ghost Value = { History };
 
 
-    ghost view = { λ b. record { keys = keys_shown b.keys.entries; records = b.records; skipped = b.skipped } };
+    ghost view = { λ b. record {
+      keys = keys_shown b.keys.entries;
+      records = b.records;
+      skipped = b.skipped;
+    } };
 }
 
 impl HistoryBuilder {
@@ -227,8 +240,10 @@ impl HistoryBuilder {
 
     /// Takes one more entry.
     pub(crate) fn add(&mut self, alloc: Global, entry: &Entry) -> Result<(), Memory>
-        requires { (entries : List Entry) × (self.old ≡ history_of entries) × (length entries < most_records) }
-        ensures { OnOk result ((entries : List Entry) → self.old ≡ history_of entries → self.new ≡ history_of (entries ++ entry.now ∷ [])) }
+        requires { (entries : List Entry) × (self.old ≡ history_of entries)
+            × (length entries < most_records) }
+        ensures { OnOk result ((entries : List Entry) → self.old ≡ history_of entries
+            → self.new ≡ history_of (entries ++ entry.now ∷ [])) }
     {
         if entry.is_skipped() {
             self.skipped += 1;

@@ -1,3 +1,4 @@
+//! What is read of whole files, of the sizes that no contract speaks of.
 use super::*;
 use std::test::Fail;
 
@@ -17,5 +18,20 @@ fn reads_a_history(rt: HostRuntime) -> Result<(), Fail> {
     assert_eq!(rt; ops[1].value, 2);
     assert_eq!(rt; ops[1].slack, 5);
     assert_eq!(rt; keys[1].ops.as_slice()[0].finish, 9_223_372_036_854_775_808);
+    Ok(())
+}
+
+#[test]
+fn reads_more_values_and_keys_than_16_bits_count(rt: HostRuntime) -> Result<(), Fail> {
+    let mut text = String::from_str(rt.alloc(), "client,op,key,value,start,finish\n")?;
+    for number in 1..70_001u32 {
+        write!(text, "0,w,x,{number},1,2\n0,w,{number},a,1,2\n")?;
+    }
+    let history = read_history(rt.alloc(), text.as_bytes())?;
+    assert_eq!(rt; history.records, 140_000);
+    let keys = history.keys.as_slice();
+    assert_eq!(rt; keys.len(), 70_001);
+    assert_eq!(rt; keys[0].values.as_slice().len(), 70_000);
+    assert_eq!(rt; keys[0].ops.as_slice().len(), 70_000);
     Ok(())
 }

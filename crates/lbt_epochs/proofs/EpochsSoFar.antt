@@ -7,7 +7,7 @@ use Rattle.stale_model.specs.declared.Cluster.{Cluster}
 use Rattle.stale_model.specs.declared.Try.{Try}
 use Rattle.stale_model.specs.declared.Two.{Two}
 use Rattle.stale_model.specs.declared.Two.TheVariants.{Yes, No}
-use Rattle.stale_model.specs.Chains.{Round, removes, repeats, refutes, rounds, epoch_by, epochs, without, writes_of}
+use Rattle.stale_model.specs.Chains.{Round, removes, refutes, rounds, epoch_by, epochs, without, writes_of}
 use Rattle.lbt_epochs.specs.Lists.{Lists, with_placed, left, cluster_at}
 use Rattle.lbt_epochs.specs.Steps.{clusters_left, rounds_of, IsReady, HasRemoved, HasKept}
 use Rattle.lbt_epochs.proofs.Removed.{fewer_after_rounds}

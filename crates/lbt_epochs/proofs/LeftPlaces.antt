@@ -5,7 +5,7 @@ use Rattle.std.specs.List.{filter, list_any, range_with_len, IsDistinct}
 use Rattle.std.specs.declared.cmp.Ordering.{Ordering}
 use Rattle.std.specs.Ordering.{nat_cmp, on, then_cmp, flip_args, is_lt, ordering_then}
 use Rattle.std.specs.Cmp.{IsTotalOrder}
-use Rattle.std.proofs.lemmas.Bool.{eq-eqb, eqb-false, ne_eqb}
+use Rattle.std.proofs.lemmas.Bool.{eqb-false, ne_eqb}
 use Rattle.std.proofs.lemmas.Bool.Decides.{nat_tests}
 use Rattle.std.proofs.lemmas.Cmp.{nat_cmp_total, on_total, then_total, back_total}
 use Rattle.std.proofs.lemmas.Option.{slice_get-get_or}

@@ -37,3 +37,5 @@ pub mod RoundSoFar
 pub mod RoundsSoFar
 pub mod EpochsSoFar
 pub mod FirstCandidates
+-- The writes of a test.
+pub mod WritesInTurn

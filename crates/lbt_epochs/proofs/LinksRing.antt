@@ -1,6 +1,6 @@
 -- A ring of links from which places are left out one after another.
 use Rattle.std.proofs.Common.{◌≡◌, ℕ, zero, suc, ◌+◌, ◌<◌, true, false, not, cond, List, [], ◌∷◌, ◌++◌, length, get_or, Some, refl, ap, sym, subst, ◌∙◌, inl, inr, arith}
-use Rattle.std.specs.Prelude.{◌==◌, slice_get, slice_set, Contains, nat_lt}
+use Rattle.std.specs.Prelude.{slice_get, slice_set, nat_lt}
 use Rattle.std.proofs.lemmas.Bool.{cases_eq, cases_Bool, eq-eqb, ne_eqb, lt-ltb, le-ltb}
 use Rattle.std.proofs.lemmas.List.{set-get_or, length-set, get_or_past}
 use Rattle.std.proofs.lemmas.Option.{slice_get_cases, same_Some, none-some, get_or_from_slice_get, slice_get_within}

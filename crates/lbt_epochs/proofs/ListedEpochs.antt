@@ -1,12 +1,12 @@
 -- The epochs that end with a list of writes end with a listing.
-use Rattle.std.proofs.Common.{◌≡◌, ℕ, zero, suc, ◌+◌, ◌-◌, ◌^◌, ◌<◌, ◌≤◌, List, [], ◌∷◌, ◌++◌, length, reverse, refl, sym, ◌∙◌, ap, arith}
+use Rattle.std.proofs.Common.{◌≡◌, ℕ, zero, suc, ◌+◌, ◌<◌, ◌≤◌, List, [], ◌∷◌, ◌++◌, length, reverse, refl, sym, ◌∙◌, ap, arith}
 use Rattle.std.specs.Prelude.{Contains, Some}
 use Rattle.std.specs.List.Sorted.{IsPermutation}
 use Rattle.std.proofs.lemmas.List.{append_assoc, append-nil, length-append}
 use Rattle.std.proofs.lemmas.List.Sorted.{IsPermutation-refl, IsPermutation-sym, IsPermutation-trans, IsPermutation-append_left, IsPermutation-append_comm, IsPermutation-append, IsPermutation-reverse, Contains-permutation, length_permutation}
 use Rattle.stale_model.specs.declared.Cluster.{Cluster}
 use Rattle.stale_model.specs.declared.Two.TheVariants.{Yes}
-use Rattle.stale_model.specs.Chains.{without, Chain, ends, fails, cut, chain, Round, removes, repeats, refutes, join, round, or_later, rounds, epoch_by, epochs}
+use Rattle.stale_model.specs.Chains.{without, Round, removes, repeats, refutes, rounds, epoch_by, epochs}
 use Rattle.stale_model.specs.Clusters.{writes_of, WriteRecordsDiffer}
 use Rattle.stale_model.specs.Orders.{StandsAt, ListsEachOnce}
 use Rattle.stale_model.specs.Listings.{IsListing}

@@ -1,5 +1,5 @@
 -- Parts of lists of clusters, and lists in which write records differ.
-use Rattle.std.proofs.Common.{◌≡◌, ℕ, Bool, true, false, not, List, [], ◌∷◌, eqb, refl, sym, ◌∙◌, ap, Some, inl, inr, arith}
+use Rattle.std.proofs.Common.{◌≡◌, ℕ, Bool, false, not, List, [], ◌∷◌, eqb, refl, sym, ◌∙◌, ap, Some, inl, inr, arith}
 use Rattle.std.specs.Prelude.{Contains, ◌==◌}
 use Rattle.std.specs.List.{filter, list_any}
 use Rattle.std.proofs.lemmas.Bool.{cases_order, or_parts, or_left, not-true, not_from_true, eqb-false, eq-eqb}

@@ -1,9 +1,8 @@
 -- What a forced chain of clusters says of their operations.
-use Rattle.std.proofs.Common.{◌≡◌, ℕ, zero, suc, ◌+◌, ◌-◌, ◌<◌, List, length, refl, sym, ◌∙◌, ap, subst, arith, add-one}
-use Rattle.std.specs.Prelude.{Contains, Option, Some, None, unwrap_or}
-use Rattle.std.specs.Option.{option_map}
+use Rattle.std.proofs.Common.{◌≡◌, ℕ, zero, suc, ◌+◌, ◌-◌, ◌<◌, List, length, refl, sym, ◌∙◌, subst, arith, add-one}
+use Rattle.std.specs.Prelude.{Contains}
 use Rattle.std.proofs.lemmas.List.{length-map}
-use Rattle.std.proofs.lemmas.Option.{slice_get-map, slice_get_within}
+use Rattle.std.proofs.lemmas.Option.{slice_get_within}
 use Rattle.stale_model.specs.declared.Op.{Op}
 use Rattle.stale_model.specs.declared.Cluster.{Cluster}
 use Rattle.stale_model.specs.declared.End.{End}
@@ -12,7 +11,7 @@ use Rattle.stale_model.specs.declared.Try.{Try}
 use Rattle.stale_model.specs.Operations.{IsRead, earliest_start}
 use Rattle.stale_model.specs.Precedence.{moved, Precedes}
 use Rattle.stale_model.specs.Orders.{StandsAt}
-use Rattle.stale_model.specs.Clusters.{IsReadOf, AreReadsOf, IsClusterOf, writes_of, WriteRecordsDiffer}
+use Rattle.stale_model.specs.Clusters.{IsClusterOf, writes_of, WriteRecordsDiffer}
 use Rattle.stale_model.specs.Zones.{reads_start}
 use Rattle.stale_model.specs.Refutations.{IsOfRecord, IsOfCluster, IsUnplaced, Forces, PrecedesUnplaced, HardHolds, SoftHolds, EndHolds, TryHolds}
 use Rattle.stale_model.proofs.Places.{something_at, same_at, contains_at, place_of, write_stands, write_there}

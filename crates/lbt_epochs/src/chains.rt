@@ -48,10 +48,8 @@ fn late_read(d: u64, f: u64, clusters: &[Cluster], at: Option<u32>) -> Option<u3
 // The cluster not placed whose write starts latest, where it starts after the tick `f`.
 fn late_write(f: u64, clusters: &[Cluster], lists: &Lists) -> Option<Cluster>
     requires { IsReady clusters.now lists.now }
-    ensures {
-        let writes = map (cluster_at clusters.now) (left lists.now.placed lists.now.writes) in
-        result ≡ if_late (λ c. c.w) f (slice_get writes 0)
-    }
+    ensures { let writes = map (cluster_at clusters.now) (left lists.now.placed lists.now.writes) in
+        result ≡ if_late (λ c. c.w) f (slice_get writes 0) }
 {
     let write = cluster_at(clusters, lists.late_write()?);
     if f < write.w { Some(write) } else { None }
@@ -83,13 +81,7 @@ fn demand_at(d: u64, clusters: &[Cluster], lists: &Lists, at: u32) -> Asked
 }
 
 /// Places the cluster at this place, and after it those of its chain: at most `room` more.
-pub(crate) fn run(
-    d: u64,
-    clusters: &[Cluster],
-    lists: &mut Lists,
-    first: u32,
-    room: u64,
-) -> Ran
+pub(crate) fn run(d: u64, clusters: &[Cluster], lists: &mut Lists, first: u32, room: u64) -> Ran
     requires ready { IsReady clusters.now lists.old }
     requires there { Contains (left lists.old.placed lists.old.candidates) first }
     ensures { IsRun d clusters.now room first lists.old lists.new result }

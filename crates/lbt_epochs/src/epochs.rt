@@ -30,10 +30,8 @@ fn left_writes(alloc: Global, clusters: &[Cluster], lists: &Lists) -> Result<Lis
 // The write records of the clusters at these places, from the last to the first.
 fn writes_reversed(alloc: Global, clusters: &[Cluster], places: &[u32]) -> Result<List<u32>, Memory>
     requires { All (λ at. at < length clusters.now) places.now }
-    ensures {
-        let in_turn = map (λ at. (cluster_at clusters.now at).write) places.now in
-        IfOk result (λ writes. writes ≡ reverse in_turn)
-    }
+    ensures { let in_turn = map (λ at. (cluster_at clusters.now at).write) places.now in
+        IfOk result (λ writes. writes ≡ reverse in_turn) }
 {
     let mut writes = writes_at(alloc, clusters, places)?.into_vec();
     writes.reverse();
@@ -45,10 +43,8 @@ fn epochs(alloc: Global, d: u64, clusters: &[Cluster], lists: &mut Lists) -> Res
     requires ready { IsReady clusters.now lists.old }
     requires few { length clusters.now < 2 ^ 32 }
     requires unplaced { lists.old.placed ≡ [] }
-    ensures {
-        let left = clusters_left clusters.now lists.old in
-        IfOk result (λ two. epochs d (length left) left [] ≡ Some two)
-    }
+    ensures { let left = clusters_left clusters.now lists.old in
+        IfOk result (λ two. epochs d (length left) left [] ≡ Some two) }
 {
     while lists.first_candidate().is_some() {
         if let Found::Refutes(tries) = rounds(alloc, d, clusters, lists)? {

@@ -70,9 +70,7 @@ fn places_in(alloc: Global, all: &[(u32, Cluster)]) -> Result<Vec<u32>, AllocErr
 // The places of the clusters in the order of candidates.
 fn candidate_places(alloc: Global, clusters: &[Cluster]) -> Result<Vec<u32>, AllocError>
     requires few { length clusters.now < 2 ^ 32 }
-    ensures {
-        IfOk result (λ places. ArePlacesBy clusters.now (λ c. true) candidate_order places.items)
-    }
+    ensures { IfOk result (λ places. ArePlacesBy clusters.now (λ c. true) candidate_order places.items) }
 {
     let mut all = numbered(alloc, clusters)?;
     all.sort_unstable_by(|a, b| candidate_cmp(&a.1, &b.1));
@@ -82,9 +80,7 @@ fn candidate_places(alloc: Global, clusters: &[Cluster]) -> Result<Vec<u32>, All
 // The places of the clusters, the latest writes first.
 fn late_write_places(alloc: Global, clusters: &[Cluster]) -> Result<Vec<u32>, AllocError>
     requires few { length clusters.now < 2 ^ 32 }
-    ensures {
-        IfOk result (λ places. ArePlacesBy clusters.now (λ c. true) late_write_order places.items)
-    }
+    ensures { IfOk result (λ places. ArePlacesBy clusters.now (λ c. true) late_write_order places.items) }
 {
     let mut all = numbered(alloc, clusters)?;
     all.sort_unstable_by(|a, b| late_write_cmp(&a.1, &b.1));
@@ -94,10 +90,8 @@ fn late_write_places(alloc: Global, clusters: &[Cluster]) -> Result<Vec<u32>, Al
 // The places of the clusters with reads, the latest reads first.
 fn late_read_places(alloc: Global, clusters: &[Cluster]) -> Result<Vec<u32>, AllocError>
     requires few { length clusters.now < 2 ^ 32 }
-    ensures {
-        let are = ArePlacesBy clusters.now (λ c. is_some c.s) late_read_order in
-        IfOk result (λ places. are places.items)
-    }
+    ensures { let are = ArePlacesBy clusters.now (λ c. is_some c.s) late_read_order in
+        IfOk result (λ places. are places.items) }
 {
     let mut all = numbered_reads(alloc, clusters)?;
     all.sort_unstable_by(|a, b| late_read_cmp(&a.1, &b.1));
@@ -124,17 +118,19 @@ impl Model for Lists {
 
     ghost Value = { Places };
 
-    ghost view = {
-        λ l. record {
-            candidates = l.candidates.items; writes = l.writes.items; reads = l.reads.items; placed = l.placed.items
-        }
-    };
+    ghost view = { λ l. record {
+      candidates = l.candidates.items;
+      writes = l.writes.items;
+      reads = l.reads.items;
+      placed = l.placed.items;
+    } };
 
-    ghost invariant = {
-        λ l. AreKept (record {
-            candidates = l.candidates.items; writes = l.writes.items; reads = l.reads.items; placed = l.placed.items
-        }) (vec_capacity l.placed) l.by_candidate l.by_write l.by_read
-    };
+    ghost invariant = { λ l. AreKept (record {
+      candidates = l.candidates.items;
+      writes = l.writes.items;
+      reads = l.reads.items;
+      placed = l.placed.items;
+    }) (vec_capacity l.placed) l.by_candidate l.by_write l.by_read };
 }
 
 impl Lists {
@@ -199,10 +195,8 @@ impl Lists {
     /// Puts the one that was placed last back among the others.
     pub fn undo(&mut self)
         requires { 0 < length self.old.placed }
-        ensures {
-            let placed = self.old.placed in
-            self.new ≡ with_placed self.old (take (length placed - 1) placed)
-        }
+        ensures { let placed = self.old.placed in
+            self.new ≡ with_placed self.old (take (length placed - 1) placed) }
     {
         let Some(at) = self.placed.pop() else {
             unreachable!()
@@ -222,10 +216,8 @@ impl Lists {
     /// The candidate after this one.
     pub fn next_candidate(&self, at: u32) -> Option<u32>
         requires { Contains (left self.now.placed self.now.candidates) at }
-        ensures {
-            let candidates = left self.now.placed self.now.candidates in
-            (i : ℕ) → StandsAt candidates i at → result ≡ slice_get candidates (i + 1)
-        }
+        ensures { let candidates = left self.now.placed self.now.candidates in
+            (i : ℕ) → StandsAt candidates i at → result ≡ slice_get candidates (i + 1) }
     {
         self.by_candidate.after(at)
     }

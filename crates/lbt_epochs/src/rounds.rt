@@ -41,9 +41,7 @@ pub(crate) fn writes_at(
     places: &[u32],
 ) -> Result<List<u32>, Memory>
     requires { All (λ at. at < length clusters.now) places.now }
-    ensures {
-        IfOk result (λ writes. writes ≡ map (λ at. (cluster_at clusters.now at).write) places.now)
-    }
+    ensures { IfOk result (λ writes. writes ≡ map (λ at. (cluster_at clusters.now at).write) places.now) }
 {
     let writes = places
         .iter()
@@ -89,10 +87,8 @@ fn round(
     room: u64,
 ) -> Result<Option<Found>, Memory>
     requires { IsReady clusters.now lists.old }
-    ensures {
-        let left = clusters_left clusters.now lists.old in
-        IfOk result (WentSo clusters.now (round d room left left) lists.old lists.new)
-    }
+    ensures { let left = clusters_left clusters.now lists.old in
+        IfOk result (WentSo clusters.now (round d room left left) lists.old lists.new) }
 {
     let mut tries = Vec::new(alloc);
     let mut some_cut = false;
@@ -129,10 +125,8 @@ pub(crate) fn rounds(
 ) -> Result<Found, Memory>
     requires ready { IsReady clusters.now lists.old }
     requires few { length clusters.now < 2 ^ 32 }
-    ensures {
-        let rounds = rounds_of d clusters.now lists.old in
-        IfOk result (IsFound clusters.now rounds lists.old lists.new)
-    }
+    ensures { let rounds = rounds_of d clusters.now lists.old in
+        IfOk result (IsFound clusters.now rounds lists.old lists.new) }
 {
     for r in 0..clusters.len() + 1 {
         if let Some(found) = round(alloc, d, clusters, lists, room_in(r))? {

@@ -1,9 +1,10 @@
 //! Answers worked by hand, and one of more clusters than two bytes count.
-ghost use Rattle.std.specs.Prelude.{◌≡◌, ◌^◌, ◌<◌, length, IfOk};
+ghost use Rattle.std.specs.Prelude.{◌≡◌, map, None, IfOk};
+ghost use Rattle.std.specs.List.{range_with_len};
 ghost use Rattle.stale_model.specs.Clusters.{WriteRecordsDiffer};
 
 use super::*;
-use stale_model::{Cluster, End, Two};
+use stale_model::{Cluster, End, Memory, Two};
 use std::alloc::{AllocError, Global};
 use std::test::Fail;
 
@@ -99,25 +100,38 @@ fn writes_that_are_stuck(rt: HostRuntime) -> Result<(), Fail> {
 
 // So many writes, each at a tick of its own, without reads.
 fn writes_in_turn(alloc: Global, count: u32) -> Result<Vec<Cluster>, AllocError>
-    ensures differ { IfOk result (λ clusters. WriteRecordsDiffer clusters.items) }
-    ensures long { IfOk result (λ clusters. length clusters.items ≡ count) }
+    ensures { IfOk result (λ clusters. clusters.items ≡ map (λ tick. record {
+      write = tick;
+      f = tick;
+      w = tick;
+      s = None;
+      first = tick;
+      last = tick;
+    }) (range_with_len 0 count)) }
 {
     (0..count)
-        .map(|write| Cluster {
-            write,
-            f: write as u64,
-            w: write as u64,
+        .map(|tick| Cluster {
+            write: tick,
+            f: tick as u64,
+            w: tick as u64,
             s: None,
-            first: write,
-            last: write,
+            first: tick,
+            last: tick,
         })
         .collect(alloc)
 }
 
+// The answer for them.
+fn answer_in_turn(alloc: Global, count: u32) -> Result<Two, Memory> {
+    let Ok(clusters) = writes_in_turn(alloc, count) else {
+        return Err(Memory);
+    };
+    two_atomic(alloc, &clusters)
+}
+
 #[test]
 fn more_writes_than_two_bytes_count(rt: HostRuntime) -> Result<(), Fail> {
-    let clusters = writes_in_turn(rt.alloc(), 70_000)?;
-    let Two::Yes(writes) = two_atomic(rt.alloc(), &clusters)? else {
+    let Two::Yes(writes) = answer_in_turn(rt.alloc(), 70_000)? else {
         panic!(rt; "a refutation of what has a listing")
     };
     assert_eq!(rt; writes.as_slice().len(), 70_000);

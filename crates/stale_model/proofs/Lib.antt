@@ -1,3 +1,4 @@
+pub mod ReadsAndWrites
 pub mod Places
 pub mod Comparisons
 pub mod Sorted

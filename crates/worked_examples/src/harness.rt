@@ -1,7 +1,9 @@
 //! What a row of a table is, and how it is run.
 
+ghost use Rattle.std.specs.Prelude.{◌<◌};
+
 use audit_commands::{Word, run_offline};
-use audit_ports::{MemoryShelf, MemorySink, OpenGate};
+use audit_ports::{Failed, Gate, MemoryShelf, MemorySink, OpenFault, OpenGate, Shelf};
 use stale_model::{Bytes, List};
 use std::alloc::{AllocError, Global};
 use std::process::Abort;
@@ -88,17 +90,42 @@ fn sink_of(alloc: Global, fail: &[u32]) -> Result<MemorySink, AllocError> {
     }
 }
 
-/// Runs a row, and demands its answer.
-pub fn run_row<R: Threads + Sync + Abort + AllocGlobal>(
+/// A shelf that gives at most so many bytes a call. It tells nothing of its files.
+#[derive(Drop)]
+pub struct ShortShelf {
+    inner: MemoryShelf,
+    most: usize,
+    ghost some: { 0 < most },
+}
+
+impl Shelf for ShortShelf {
+    ghost use Rattle.std.specs.Prelude.{None};
+    ghost use Rattle.audit_ports.specs.MemoryShown.{memory_shown};
+
+    ghost shown = { λ shelf. record (memory_shown shelf.inner) { files = None } };
+
+    fn open(&mut self, name: &[u8]) -> Result<(), OpenFault> {
+        self.inner.open(name)
+    }
+
+    fn read(&mut self, into: &mut [u8]) -> Result<usize, Failed> {
+        let most = self.most.min(into.len());
+        self.inner.read(&mut into[..most])
+    }
+}
+
+// Runs a row over a shelf, and demands its answer.
+fn run_over<R: Threads + Sync + Abort + AllocGlobal, S: Shelf, G: Gate>(
     rt: &R,
     row: &Row,
+    shelf: &mut S,
+    gate: &G,
 ) -> Result<(), AllocError> {
     let alloc = rt.alloc();
     let words = words_of(alloc, row.words)?;
-    let mut shelf = shelf_of(alloc, row.file, row.shelf_fails)?;
     let mut out = sink_of(alloc, row.out_fails)?;
     let mut err = sink_of(alloc, row.err_fails)?;
-    let status = run_offline(rt, alloc, &words, &mut shelf, &mut out, &mut err, &OpenGate);
+    let status = run_offline(rt, alloc, &words, shelf, &mut out, &mut err, gate);
     let shows = row.shows;
     assert!(rt; status == row.status, "{shows}: status {status}");
     assert!(rt; out.written() == row.out.as_bytes(), "{shows}: output");
@@ -107,6 +134,44 @@ pub fn run_row<R: Threads + Sync + Abort + AllocGlobal>(
         "{shows}: error output"
     );
     Ok(())
+}
+
+/// Runs a row, and demands its answer.
+pub fn run_row<R: Threads + Sync + Abort + AllocGlobal>(
+    rt: &R,
+    row: &Row,
+) -> Result<(), AllocError> {
+    let mut shelf = shelf_of(rt.alloc(), row.file, row.shelf_fails)?;
+    run_over(rt, row, &mut shelf, &OpenGate)
+}
+
+/// Runs a row over a shelf that gives at most so many bytes a call, and demands its answer.
+pub fn run_shortly<R: Threads + Sync + Abort + AllocGlobal>(
+    rt: &R,
+    row: &Row,
+    most: usize,
+) -> Result<(), AllocError>
+    requires { 0 < most }
+{
+    let inner = shelf_of(rt.alloc(), row.file, row.shelf_fails)?;
+    let mut shelf = ShortShelf { inner, most };
+    run_over(rt, row, &mut shelf, &OpenGate)
+}
+
+/// Audits a history past a gate, where no call fails, and gives the status.
+pub fn audit_past<R: Threads + Sync + AllocGlobal, G: Gate>(
+    rt: &R,
+    history: &[u8],
+    gate: &G,
+) -> Result<u8, AllocError> {
+    let alloc = rt.alloc();
+    let words = words_of(alloc, &["audit", "h"])?;
+    let mut shelf = shelf_of(alloc, ("h", history), &[])?;
+    let mut out = sink_of(alloc, &[])?;
+    let mut err = sink_of(alloc, &[])?;
+    Ok(run_offline(
+        rt, alloc, &words, &mut shelf, &mut out, &mut err, gate,
+    ))
 }
 
 /// Runs each row of a table.

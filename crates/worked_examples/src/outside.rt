@@ -1,6 +1,9 @@
-//! Words that are refused, files that are not there or too long, and calls of the outside that fail.
+//! Words that are refused, files that are not there or too long, calls of the outside that fail or give less than was
+//! asked for, and the gate.
 
-use crate::harness::{Row, run_row, run_table};
+use crate::harness::{Row, audit_past, run_row, run_shortly, run_table};
+use audit_ports::Gate;
+use std::sync::atomic::{AtomicU32, Ordering};
 use std::test::Fail;
 
 const HISTORY: &[u8] = b"client,op,key,value,start,finish\n0,w,x,a,1,3\n1,r,x,a,4,6\n";
@@ -106,6 +109,63 @@ fn failed_writes_are_told(rt: HostRuntime) -> Result<(), Fail> {
             },
         ],
     )?;
+    Ok(())
+}
+
+#[test]
+fn short_reads_are_put_together(rt: HostRuntime) -> Result<(), Fail> {
+    let row = Row::audit("a few bytes a call", HISTORY, REPORT);
+    run_shortly(&rt, &row, 1)?;
+    run_shortly(&rt, &row, 7)?;
+    // The history has 56 bytes: opened by call 1, read by calls 2 to 57, and its end is call 58.
+    run_shortly(&rt, &with_shelf("a read amid the file fails", &[30]), 1)?;
+    run_shortly(&rt, &with_shelf("the read at the end fails", &[58]), 1)?;
+    let after_the_end = Row {
+        shelf_fails: &[59],
+        ..row
+    };
+    run_shortly(&rt, &after_the_end, 1)?;
+    Ok(())
+}
+
+// A gate that counts its calls, and those that come out of turn: each key is entered, in the order of the keys, after
+// the one before was left.
+struct CountingGate {
+    entered: AtomicU32,
+    left: AtomicU32,
+    astray: AtomicU32,
+}
+
+impl Gate for CountingGate {
+    fn enter(&self, piece: u32) {
+        let entered = self.entered.fetch_add(1, Ordering::SeqCst);
+        if entered != piece || self.left.load(Ordering::SeqCst) != piece {
+            self.astray.fetch_add(1, Ordering::SeqCst);
+        }
+    }
+
+    fn leave(&self, piece: u32) {
+        let left = self.left.fetch_add(1, Ordering::SeqCst);
+        if left != piece || self.entered.load(Ordering::SeqCst) != piece.wrapping_add(1) {
+            self.astray.fetch_add(1, Ordering::SeqCst);
+        }
+    }
+}
+
+// Wherever an allocation is refused, what was entered is left.
+#[test]
+fn the_gate_is_passed_round_each_key(rt: HostRuntime) -> Result<(), Fail> {
+    let gate = CountingGate {
+        entered: AtomicU32::new(0),
+        left: AtomicU32::new(0),
+        astray: AtomicU32::new(0),
+    };
+    let history = b"client,op,key,value,start,finish\n0,w,x,a,1,3\n0,w,y,a,4,6\n0,r,z,a,7,9\n";
+    let status = audit_past(&rt, history, &gate)?;
+    let entered = gate.entered.load(Ordering::SeqCst);
+    assert_eq!(rt; gate.astray.load(Ordering::SeqCst), 0);
+    assert_eq!(rt; gate.left.load(Ordering::SeqCst), entered);
+    assert!(rt; status == 10 || (status == 0 && entered == 3));
     Ok(())
 }
 

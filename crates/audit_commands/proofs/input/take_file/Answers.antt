@@ -1,19 +1,23 @@
-use Rattle.std.proofs.Common.{◌≡◌, ◌≤◌, ◌<◌, ◌^◌, length, true, rules, arith, ◌∙◌}
+use Rattle.std.proofs.Common.{◌≡◌, ◌≤◌, ◌<◌, ◌^◌, length, true, rules, arith}
 use Rattle.std.specs.Result.{is_ok}
-use Rattle.audit_commands.proofs.Taking.{taken_more}
+use Rattle.audit_commands.proofs.Taking.{byte_a_turn, taken_more}
 use Rattle.audit_commands.proofs.input.take_file.Goals as goal
 
-pub loop-preserved : goal.loop-preserved
-loop-preserved g c =
+pub loop-turn-preserved : goal.loop-turn-preserved
+loop-turn-preserved g c =
     let good : is_ok c.extend_from_slice.result ≡ true = search rules in
-    let items = rw good at c.extend_from_slice.ensures.items in
-    let ok = c.in-Ok-read.ensures.ok in
-    let k = c.in-Ok-read.ensures.keeps in
-    let old = c.loop.invariant.keeps in
+    let same = c.reserve.ensures.items in
+    let items = rw (good, same) at c.extend_from_slice.ensures.items in
+    let before = c.loop-turn.invariant in
+    let count = c.in_ok-count.count in
+    let some : 0 < count = omega arith in
+    let within : count ≤ length c.read.new.into = search rules in
     let short : length c.extend_from_slice.new.self.items ≤ c.args.limit = search rules in
-    let small : length c.loop.bytes.items < 2 ^ 32 = omega (arith, c.loop.invariant.short, c.requires) in
+    let small : length c.loop-turn.bytes.items < 2 ^ 32 = omega (arith, before.short, c.requires.limit) in
+    let ok = rw c.in_ok-count.was at c.read.ensures.ok in
+    let counts = rw c.in_ok-count.was at c.read.ensures.counts in
     record {
-      keeps = record { files = k.files ∙ old.files; read_faults = omega (arith, k.read_faults, old.read_faults); write_faults = omega (arith, k.write_faults, old.write_faults); misses = omega (arith, k.misses, old.misses) };
+      turns = rw items (byte_a_turn c.loop-turn.bytes.items c.read.new.into c.loop-turn.turn count before.turns within some);
       short = short;
-      taken = rw items (taken_more c.args.name.now c.loop.bytes.items c.read.new.into (g.S.Shelf.shown c.loop.shelf) (g.S.Shelf.shown c.read.new.self) c.in-Ok-read.count small (search rules) c.loop.invariant.taken k ok);
+      taken = rw items (taken_more c.args.name.now c.loop-turn.bytes.items c.read.new.into (g.S.Shelf.shown c.args.shelf.now) (g.S.Shelf.shown c.loop-turn.shelf) (g.S.Shelf.shown c.read.new.self) count small (search rules) before.taken c.read.ensures.keeps counts ok);
     }

@@ -1,11 +1,11 @@
 use Rattle.std.proofs.Common.{sym}
 use Rattle.csv.specs.Records.{fields_of}
 use Rattle.csv.proofs.RecordFacts.{field-get}
-use Rattle.history_csv.proofs.FieldFacts.{field-past}
+use Rattle.history_csv.proofs.FieldFacts.{field-within}
 use Rattle.history_csv.proofs.header.field.Goals as goal
 
-pub returns-in-Some : goal.returns-in-Some
-returns-in-Some c = sym (field-get (fields_of c.args.row.now) c.args.place _ (sym c.in-Some.ensures.value))
+pub unreachable-requires : goal.unreachable-requires
+unreachable-requires c = field-within (fields_of c.args.row.now) c.args.place c.requires (sym c.in-None.ensures.value)
 
-pub returns-in-None : goal.returns-in-None
-returns-in-None c = sym (field-past (fields_of c.args.row.now) c.args.place (sym c.in-None.ensures.value))
+pub returns : goal.returns
+returns c = sym (field-get (fields_of c.args.row.now) c.args.place _ (sym c.in-Some.ensures.value))

@@ -1,4 +1,4 @@
-use Rattle.std.proofs.Common.{◌≡◌, ℕ, List, reverse, map, Some, sym, ◌∙◌, ap}
+use Rattle.std.proofs.Common.{ℕ, List, reverse, map, Some, sym, ◌∙◌, ap}
 use Rattle.stale_model.specs.Chains.{refutes}
 use Rattle.stale_model.specs.declared.Two.TheVariants.{Yes}
 use Rattle.lbt_epochs.specs.Lists.{cluster_at}

@@ -1,0 +1,43 @@
+//! The statuses of a call.
+
+ghost use Rattle.std.specs.Prelude.{◌≡◌};
+ghost use Rattle.audit_commands.specs.Status.{number};
+
+/// How a call of the program ended.
+#[derive(Clone, Copy, Debug, PartialEq, Eq)]
+pub enum Status {
+    /// The report was written.
+    Done,
+    /// The words are others.
+    WordsRefused,
+    /// The file is no history.
+    HistoryRefused,
+    /// There is no such file.
+    Missing,
+    /// A read failed.
+    ReadFailed,
+    /// A write of the report failed.
+    WriteFailed,
+    /// The file is longer than the limit.
+    TooLong,
+    /// Memory was wanting.
+    OutOfMemory,
+}
+
+impl Status {
+    /// The number that the process ends with.
+    pub fn number(self) -> u8
+        ensures { result ≡ number self }
+    {
+        match self {
+            Status::Done => 0,
+            Status::WordsRefused => 2,
+            Status::HistoryRefused => 3,
+            Status::Missing => 5,
+            Status::ReadFailed => 6,
+            Status::WriteFailed => 7,
+            Status::TooLong => 8,
+            Status::OutOfMemory => 10,
+        }
+    }
+}
