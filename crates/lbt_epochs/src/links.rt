@@ -21,7 +21,10 @@ impl Model for Links {
 
     ghost view = { λ l. record { next = l.next.items; previous = l.previous.items } };
 
-    ghost invariant = { λ l. AreNodes (record { next = l.next.items; previous = l.previous.items }) };
+    ghost invariant = { λ l. AreNodes (record {
+      next = l.next.items;
+      previous = l.previous.items;
+    }) };
 }
 
 // The numbers up to this one, which is among them.

@@ -53,7 +53,8 @@ fn numbered(alloc: Global, clusters: &[Cluster]) -> Result<Vec<(u32, Cluster)>, 
 // Those of them that have reads.
 fn numbered_reads(alloc: Global, clusters: &[Cluster]) -> Result<Vec<(u32, Cluster)>, AllocError>
     requires few { length clusters.now < 2 ^ 32 }
-    ensures { IfOk result (λ all. all.items ≡ filter (λ one. is_some one.1.s) (numbered clusters.now)) }
+    ensures { let of_all = numbered clusters.now in
+        IfOk result (λ all. all.items ≡ filter (λ one. is_some one.1.s) of_all) }
 {
     let mut all = numbered(alloc, clusters)?;
     all.retain(|one| one.1.s.is_some());
@@ -70,7 +71,8 @@ fn places_in(alloc: Global, all: &[(u32, Cluster)]) -> Result<Vec<u32>, AllocErr
 // The places of the clusters in the order of candidates.
 fn candidate_places(alloc: Global, clusters: &[Cluster]) -> Result<Vec<u32>, AllocError>
     requires few { length clusters.now < 2 ^ 32 }
-    ensures { IfOk result (λ places. ArePlacesBy clusters.now (λ c. true) candidate_order places.items) }
+    ensures { let are = ArePlacesBy clusters.now (λ c. true) candidate_order in
+        IfOk result (λ places. are places.items) }
 {
     let mut all = numbered(alloc, clusters)?;
     all.sort_unstable_by(|a, b| candidate_cmp(&a.1, &b.1));
@@ -80,7 +82,8 @@ fn candidate_places(alloc: Global, clusters: &[Cluster]) -> Result<Vec<u32>, All
 // The places of the clusters, the latest writes first.
 fn late_write_places(alloc: Global, clusters: &[Cluster]) -> Result<Vec<u32>, AllocError>
     requires few { length clusters.now < 2 ^ 32 }
-    ensures { IfOk result (λ places. ArePlacesBy clusters.now (λ c. true) late_write_order places.items) }
+    ensures { let are = ArePlacesBy clusters.now (λ c. true) late_write_order in
+        IfOk result (λ places. are places.items) }
 {
     let mut all = numbered(alloc, clusters)?;
     all.sort_unstable_by(|a, b| late_write_cmp(&a.1, &b.1));

@@ -41,7 +41,8 @@ pub(crate) fn writes_at(
     places: &[u32],
 ) -> Result<List<u32>, Memory>
     requires { All (λ at. at < length clusters.now) places.now }
-    ensures { IfOk result (λ writes. writes ≡ map (λ at. (cluster_at clusters.now at).write) places.now) }
+    ensures { let in_turn = map (λ at. (cluster_at clusters.now at).write) places.now in
+        IfOk result (λ writes. writes ≡ in_turn) }
 {
     let writes = places
         .iter()
