@@ -1,5 +1,5 @@
 -- Definitions that serve the code alone: the steps of an audit.
-use Rattle.std.specs.Prelude.{◌≡◌, ℕ, ◌≤◌, List, length, take, Some, IfSome, IsSome, Ok, Result, OnOk, OnErr}
+use Rattle.std.specs.Prelude.{◌≡◌, ℕ, List, length, take, Some, IfSome, IsSome, Ok, Result, OnOk, OnErr}
 use Rattle.stale_model.specs.declared.History.{History}
 use Rattle.audit_ports.specs.Shelf.{Shown, KeepsCounts, file_at}
 use Rattle.audit_ports.specs.Sink.{SinkShown}

@@ -1,6 +1,6 @@
 //! The audit of a history file.
 
-ghost use Rattle.std.specs.Prelude.{◌≡◌, ◌⊎◌, ℕ, Ok, Err, IfOk, IfErr, OnErr, List};
+ghost use Rattle.std.specs.Prelude.{IfOk, IfErr};
 ghost use Rattle.stale_model.specs.Valid.{IsValidHistory};
 ghost use Rattle.audit_ports.specs.Shelf.{KeepsFiles};
 ghost use Rattle.audit_commands.specs.Input.{TakesInput};

@@ -2,7 +2,7 @@
 
 ghost use Rattle.std.specs.Prelude.{◌≡◌, ◌≢◌, ◌++◌, Some, IfOk, codes};
 ghost use Rattle.std.specs.String.{string_bytes};
-ghost use Rattle.audit_commands.specs.Lines.{column_name, record_line, fault_line, memory_line, SaysLine};
+ghost use Rattle.audit_commands.specs.Lines.{column_name, record_line, fault_line, memory_line};
 ghost use Rattle.audit_commands.specs.Refusals.{Says, SaysFault, Answers};
 ghost use Rattle.audit_commands.specs.Status.{number};
 ghost use Rattle.staleness_report.specs.Escaped.{escaped};

@@ -2,7 +2,7 @@
 //! work; with implementations in memory, and the real ones.
 #![tactic(auto)]
 
-ghost use Rattle.std.specs.Prelude.{◌≡◌, ℕ, ◌<◌, ◌≤◌, List, length, IsSome};
+ghost use Rattle.std.specs.Prelude.{◌<◌, ◌≤◌, length, IsSome};
 ghost use Rattle.audit_ports.specs.Shelf.{Shown, Opens, Reads, Rose};
 ghost use Rattle.audit_ports.specs.Sink.{SinkShown, Writes, Flushes};
 

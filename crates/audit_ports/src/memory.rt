@@ -1,5 +1,5 @@
 //! Files and outputs in memory. Exactly the calls that they are told to fail do fail.
-ghost use Rattle.std.specs.Prelude.{◌≡◌, ◌⊎◌, ℕ, ◌+◌, ◌-◌, ◌^◌, ◌<◌, ◌≤◌, ◌↔◌, List, [], length, take, drop, min, Some, None, IsSome, position, IfSome, IfNone, IfOk, IsErr, OnErr, IsErrOf, IsTrue};
+ghost use Rattle.std.specs.Prelude.{◌≡◌, ◌⊎◌, ◌+◌, ◌-◌, ◌<◌, ◌≤◌, ◌↔◌, List, [], length, take, drop, min, Some, None, IsSome, position, IfSome, IfNone, IfOk, IsErr, OnErr, IsErrOf, IsTrue};
 ghost use Rattle.std.specs.Option.{ForSome};
 ghost use Rattle.audit_ports.specs.Shelf.{Opens, Reads, file_at, fresh};
 ghost use Rattle.audit_ports.specs.Sink.{Writes, Flushes, fresh_sink};
@@ -113,7 +113,8 @@ impl Shelf for MemoryShelf {
         ensures opens { Opens name.now (memory_shown self.old) result (memory_shown self.new) }
         ensures counts { CountsCall (shelf_calls self.old) (shelf_calls self.new) }
         ensures failed { IsErrOf result OpenFault.Failed ↔ IsFailingCall (shelf_calls self.new) }
-        ensures missing { IsErrOf result OpenFault.Missing ↔ ((¬ (IsFailingCall (shelf_calls self.new))) ×
+        ensures missing { IsErrOf result OpenFault.Missing ↔
+            ((¬ (IsFailingCall (shelf_calls self.new))) ×
             (file_at (shelf_files self.old) name.now ≡ None)) }
     {
         self.opened = None;

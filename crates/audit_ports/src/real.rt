@@ -53,7 +53,7 @@ fn open_real<R: Files + AllocGlobal>(rt: &R, name: &[u8]) -> Result<(Vec<u8>, R:
     }
 }
 
-// Reads from a stream. Each error is a failure, an interruption too.
+/// Reads from a stream. Each error is a failure, an interruption too.
 pub(crate) fn read_stream<T: Read>(stream: &mut T, into: &mut [u8]) -> Result<usize, Failed>
     ensures { IfOk result (λ count. count ≤ length into.new) }
 {

@@ -169,9 +169,7 @@ pub fn audit_past<R: Threads + Sync + AllocGlobal, G: Gate>(
     let mut shelf = shelf_of(alloc, ("h", history), &[])?;
     let mut out = sink_of(alloc, &[])?;
     let mut err = sink_of(alloc, &[])?;
-    Ok(run_offline(
-        rt, alloc, &words, &mut shelf, &mut out, &mut err, gate,
-    ))
+    Ok(run_offline(rt, alloc, &words, &mut shelf, &mut out, &mut err, gate))
 }
 
 /// Runs each row of a table.

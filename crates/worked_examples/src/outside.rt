@@ -117,11 +117,11 @@ fn short_reads_are_put_together(rt: HostRuntime) -> Result<(), Fail> {
     let row = Row::audit("a few bytes a call", HISTORY, REPORT);
     run_shortly(&rt, &row, 1)?;
     run_shortly(&rt, &row, 7)?;
-    // The history has 56 bytes: opened by call 1, read by calls 2 to 57, and its end is call 58.
+    // The history has 57 bytes: opened by call 1, read by calls 2 to 58, and its end is call 59.
     run_shortly(&rt, &with_shelf("a read amid the file fails", &[30]), 1)?;
-    run_shortly(&rt, &with_shelf("the read at the end fails", &[58]), 1)?;
+    run_shortly(&rt, &with_shelf("the read at the end fails", &[59]), 1)?;
     let after_the_end = Row {
-        shelf_fails: &[59],
+        shelf_fails: &[60],
         ..row
     };
     run_shortly(&rt, &after_the_end, 1)?;
@@ -130,6 +130,7 @@ fn short_reads_are_put_together(rt: HostRuntime) -> Result<(), Fail> {
 
 // A gate that counts its calls, and those that come out of turn: each key is entered, in the order of the keys, after
 // the one before was left.
+#[derive(Drop)]
 struct CountingGate {
     entered: AtomicU32,
     left: AtomicU32,
