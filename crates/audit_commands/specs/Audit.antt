@@ -4,6 +4,7 @@ use Rattle.stale_model.specs.declared.History.{History}
 use Rattle.stale_model.specs.declared.Verdict.{Verdict}
 use Rattle.stale_model.specs.PrintedVerdicts.{ArePrintedVerdicts}
 use Rattle.stale_model.specs.Truth.{EachKeyHas, IsTrueOf}
+use Rattle.stale_model.specs.Shown.{IsShown}
 use Rattle.audit_ports.specs.Shelf.{Shown, Rose}
 use Rattle.audit_ports.specs.Sink.{SinkShown, GainsPrefix, appended}
 use Rattle.history_csv.specs.declared.HistoryFault.{HistoryFault}
@@ -15,12 +16,13 @@ use Rattle.audit_commands.specs.Input.{TakesInput}
 abbrev pub history_limit : ℕ
 history_limit = 67108864
 
--- this is the report on a history, by the verdicts of its keys, which are true
+-- this is the report on a history: its verdicts are true and shown; which orders and records they have is the last part
 pub record Reports (history : History) (text : List ℕ) : Type 0 where
   pub verdicts : List Verdict
-  pub judged : ArePrintedVerdicts history.keys verdicts
-  pub truth : EachKeyHas IsTrueOf history.keys verdicts
   pub text_is : text ≡ report_text history verdicts
+  pub truth : EachKeyHas IsTrueOf history.keys verdicts
+  pub shown : EachKeyHas IsShown history.keys verdicts
+  pub printed : ArePrintedVerdicts history.keys verdicts
 
 -- the history file of this name was taken, and this is the report on the history that its bytes are
 pub record IsReportOf (name : List ℕ) (old new : Shown) (text : List ℕ) : Type 0 where

@@ -1,22 +1,12 @@
 -- The line that is written to the error output after a refusal.
-use Rattle.std.specs.Prelude.{◌≡◌, ◌⊎◌, ℕ, ◌==◌, ◌≤◌, if◌then◌else◌, List, ◌++◌, Option, Some, None, codes}
+use Rattle.std.specs.Prelude.{◌≡◌, ◌⊎◌, ℕ, ◌≤◌, List, ◌++◌, Option, Some, None, codes}
 use Rattle.std.specs.Fmt.{decimal}
 use Rattle.history_csv.specs.declared.HistoryFault.{HistoryFault}
 use Rattle.history_csv.specs.declared.HistoryFault.TheVariants as fault
+use Rattle.history_csv.specs.Header.{column_name}
 use Rattle.audit_ports.specs.Shelf.{Rose}
 use Rattle.audit_ports.specs.Sink.{SinkShown, GainsPrefix, appended}
 use Rattle.staleness_report.specs.Escaped.{escaped}
-
--- the name of a column of a history, by its number
-abbrev pub column_name : ℕ → List ℕ
-column_name n =
-    if n == 1 then codes "client"
-    else if n == 2 then codes "op"
-    else if n == 3 then codes "key"
-    else if n == 4 then codes "value"
-    else if n == 5 then codes "start"
-    else if n == 6 then codes "finish"
-    else codes "slack"
 
 -- the line on a record at fault
 abbrev pub record_line : ℕ → List ℕ → List ℕ

@@ -1,6 +1,7 @@
 -- Definitions that serve the code alone: the refusals of an audit, what shows each, and what is said of it.
 use Rattle.std.specs.Prelude.{◌≡◌, ◌≢◌, ◌⊎◌, ℕ, List, Some, Ok, Err, Result, OnOk, IfErr}
 use Rattle.stale_model.specs.declared.History.{History}
+use Rattle.history_csv.specs.Header.{IsColumn}
 use Rattle.history_csv.specs.declared.HistoryFault.{HistoryFault}
 use Rattle.history_csv.specs.declared.HistoryFault.TheVariants as history_fault
 use Rattle.audit_ports.specs.Shelf.{Shown, KeepsFiles, KeepsCounts, Misses, FailsReading}
@@ -23,10 +24,15 @@ abbrev pub ReadsAs : Result History HistoryFault → Result History Refusal → 
 ReadsAs (Ok history) result = result ≡ Ok history
 ReadsAs (Err fault) result = result ≡ Err (refusal_of fault)
 
--- a fault that the file of this name has, which is no want of memory
+-- a fault that has a line: it is no want of memory, and a column that it names is one of a history
+pub record HasLine (fault : HistoryFault) : Type 0 where
+  pub no_memory : fault ≢ history_fault.Memory
+  pub column : (number : ℕ) → fault ≡ history_fault.Column number → IsColumn number
+
+-- a fault that the file of this name has
 pub record ShowsFault (name : List ℕ) (old new : Shown) (fault : HistoryFault) : Type 0 where
   pub fault_is : IsFaultOf name old new fault
-  pub no_memory : fault ≢ history_fault.Memory
+  pub has_line : HasLine fault
 
 -- the file of this name is missing, and this is the line on it
 pub record ShowsMissing (name : List ℕ) (old new : Shown) (line : List ℕ) : Type 0 where

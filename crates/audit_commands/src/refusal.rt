@@ -1,15 +1,17 @@
 //! Why an audit is refused, with the line and the status of each refusal.
 
-ghost use Rattle.std.specs.Prelude.{◌≡◌, ◌≢◌, ◌++◌, Some, IfOk, codes};
+ghost use Rattle.std.specs.Prelude.{◌≡◌, ◌++◌, Some, IfOk, codes};
 ghost use Rattle.std.specs.String.{string_bytes};
-ghost use Rattle.audit_commands.specs.Lines.{column_name, record_line, fault_line, memory_line};
-ghost use Rattle.audit_commands.specs.Refusals.{Says, SaysFault, Answers};
+ghost use Rattle.history_csv.specs.Header.{IsColumn};
+ghost use Rattle.history_csv.specs.declared.HistoryFault.{HistoryFault};
+ghost use Rattle.audit_commands.specs.Lines.{record_line, fault_line, memory_line};
+ghost use Rattle.audit_commands.specs.Refusals.{HasLine, Says, SaysFault, Answers};
 ghost use Rattle.audit_commands.specs.Status.{number};
 ghost use Rattle.staleness_report.specs.Escaped.{escaped};
 
 use crate::status::Status;
 use audit_ports::Sink;
-use history_csv::HistoryFault;
+use history_csv::{HistoryFault, column_name};
 use stale_model::{Bytes, Memory};
 use staleness_report::escape;
 use std::alloc::{AllocError, Global};
@@ -53,21 +55,6 @@ impl From<Memory> for Refusal {
     }
 }
 
-// The name of a column of a history, by its number.
-fn column_name(number: u8) -> &'static str
-    ensures { result.now ≡ column_name number }
-{
-    match number {
-        1 => "client",
-        2 => "op",
-        3 => "key",
-        4 => "value",
-        5 => "start",
-        6 => "finish",
-        _ => "slack",
-    }
-}
-
 // The line on a record at fault.
 fn record_line(alloc: Global, rec: u32, word: &str) -> Result<String, AllocError>
     ensures { IfOk result (λ line. string_bytes line ≡ record_line rec word.now) }
@@ -82,6 +69,7 @@ fn record_line(alloc: Global, rec: u32, word: &str) -> Result<String, AllocError
 
 // The line on a column at fault.
 fn column_line(alloc: Global, number: u8) -> Result<String, AllocError>
+    requires { IsColumn number }
     ensures { IfOk result (λ line.
         Some (string_bytes line) ≡ fault_line (HistoryFault.Column number)) }
 {
@@ -93,7 +81,7 @@ fn column_line(alloc: Global, number: u8) -> Result<String, AllocError>
 
 // The line on a fault of a history.
 fn fault_line(alloc: Global, fault: HistoryFault) -> Result<String, AllocError>
-    requires { fault ≢ HistoryFault.Memory }
+    requires { HasLine fault }
     ensures { IfOk result (λ line. fault_line fault ≡ Some (string_bytes line)) }
 {
     match fault {
@@ -150,7 +138,7 @@ pub(crate) fn end_without_memory<E: Sink>(err: &mut E) -> Status
 
 // Says which fault a history has, and gives the status. The line takes memory.
 fn end_by_fault<E: Sink>(alloc: Global, fault: HistoryFault, err: &mut E) -> Status
-    requires { fault ≢ HistoryFault.Memory }
+    requires { HasLine fault }
     ensures { SaysFault fault result (E.shown err.old) (E.shown err.new) }
 {
     match fault_line(alloc, fault) {
@@ -161,7 +149,7 @@ fn end_by_fault<E: Sink>(alloc: Global, fault: HistoryFault, err: &mut E) -> Sta
 
 /// Writes the line of a refusal, and gives its status.
 pub(crate) fn refuse<E: Sink>(alloc: Global, refusal: Refusal, err: &mut E) -> Status
-    requires { refusal ≢ Refusal.History HistoryFault.Memory }
+    requires { (fault : HistoryFault) → refusal ≡ Refusal.History fault → HasLine fault }
     ensures { Answers refusal result (E.shown err.old) (E.shown err.new) }
 {
     match refusal {

@@ -22,13 +22,13 @@ returns-in-Err-clause-ends g c =
       status = c.refuse.result;
       number_is = search rules;
       ends = refused c.args.words.now c.in-Some.name.now named (g.S.Shelf.shown c.args.shelf.now) (g.S.Shelf.shown c.audit.new.shelf) (g.O.Sink.shown c.args.out.now) (g.O.Sink.shown c.audit.new.out) (g.E.Sink.shown c.args.err.now) (g.E.Sink.shown c.refuse.new.err)
-        c.in-Err.refusal c.refuse.result c.in-Err.ensures.refused c.refuse.ensures;
+          c.in-Err.refusal c.refuse.result c.in-Err.ensures.refused c.refuse.ensures;
     }
 
 pub returns-in-Err-clause-complete : goal.returns-in-Err-clause-complete
 returns-in-Err-clause-complete g c =
     let named : history_name c.args.words.now ≡ Some c.in-Some.name.now = search rules in
     let is = complete c.args.words.now c.in-Some.name.now named (g.S.Shelf.shown c.args.shelf.now) (g.S.Shelf.shown c.audit.new.shelf) (g.O.Sink.shown c.args.out.now) (g.O.Sink.shown c.audit.new.out) (g.E.Sink.shown c.args.err.now) (g.E.Sink.shown c.refuse.new.err)
-        c.in-Err.refusal c.refuse.result c.in-Err.ensures.files c.in-Err.ensures.refused c.refuse.ensures in
+    c.in-Err.refusal c.refuse.result c.in-Err.ensures.files c.in-Err.ensures.refused c.refuse.ensures in
     let number_is : c.number-in-Err.result ≡ number c.refuse.result = search rules in
     rw number_is is
