@@ -1,3 +1,4 @@
+//! The least d at which no two clusters are in conflict, with what shows it.
 ghost use Rattle.std.specs.Prelude.{◌≡◌, ◌-◌, ◌<◌, ◌≤◌, All, IfOk};
 ghost use Rattle.stale_model.specs.Zones.{HasNoConflict, last_record, IsFourOfPair};
 ghost use Rattle.zones.specs.Conflicts.{HasConflict};

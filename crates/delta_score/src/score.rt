@@ -1,3 +1,4 @@
+//! The score of a pair of clusters: the least d at which the two are not in conflict.
 ghost use Rattle.std.specs.Prelude.{ℕ, ◌<◌, ◌≤◌, ◌↔◌};
 ghost use Rattle.stale_model.specs.Zones.{AreInConflict};
 

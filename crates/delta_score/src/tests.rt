@@ -1,3 +1,4 @@
+//! Answers worked by hand, and histories that are large or hard for the search.
 ghost use Rattle.std.specs.Prelude.{◌≡◌, ◌*◌, ◌≤◌, ◌<◌, All, IfOk};
 ghost use Rattle.stale_model.specs.Clusters.{WriteRecordsDiffer};
 
