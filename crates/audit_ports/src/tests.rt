@@ -83,10 +83,11 @@ struct Narrow<'a> {
 
 impl Write for Narrow<'_> {
     fn write(&mut self, buf: &[u8]) -> io::Result<usize> {
-        match (buf.first(), self.taken.get_mut(*self.count)) {
+        let count = *self.count;
+        match (buf.first(), self.taken.get_mut(count)) {
             (Some(byte), Some(place)) => {
                 *place = *byte;
-                *self.count += 1;
+                *self.count = count + 1;
                 Ok(1)
             }
             _ => Ok(0),
