@@ -87,8 +87,8 @@ line_definite n word.Try ws =
     (at_definite n (length ws - 3) (hard_of n) ws (hard_definite n))
     (definite-if (nat_le 5 (length ws) && is_word (codes "soft") (slice_get ws (length ws - 4))) (try_at n (length ws - 4) (soft_of n) ws) (Err (fault.Line n))
     (at_definite n (length ws - 4) (soft_of n) ws (soft_definite n)) (line_fault n))
-line_definite n word.End [] e = cc
-line_definite n word.End (w ∷ ws) e = cc
+line_definite n word.End [] = λ e. cc
+line_definite n word.End (w ∷ ws) = line_fault n
 
 start_definite : (n : ℕ) (l : CertLine) → IsDefinite (at_start n l)
 start_definite n form.Header e = cc
@@ -132,7 +132,7 @@ no_definite n vs bound (form.Stuck stuck) e = cc
 no_definite n vs bound l e = cc
 
 stuck_definite : (keys n : ℕ) (vs : List Verdict) (bound : Bound) (refutation : Refutation) (l : CertLine) → IsDefinite (after_stuck keys n vs bound refutation l)
-stuck_definite keys n vs bound refutation (form.Try attempt) e = cc
+stuck_definite keys n vs bound refutation (form.Try attempt) = λ e. cc
 stuck_definite keys n vs bound refutation (form.Key key) = between_definite keys n (vs ++ judged bound (No refutation) ∷ []) (form.Key key)
 stuck_definite keys n vs bound refutation form.End = between_definite keys n (vs ++ judged bound (No refutation) ∷ []) form.End
 stuck_definite keys n vs bound refutation l = line_fault n

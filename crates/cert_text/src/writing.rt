@@ -7,7 +7,7 @@ ghost use Rattle.cert_text.specs.declared.lines.CertLine.{CertLine};
 ghost use Rattle.cert_text.specs.Texts.{numbers_text, end_words, lines_text};
 ghost use Rattle.cert_text.specs.Certificates.{pair_lines, two_lines, verdict_lines, parts_lines, has_chains, cert_text};
 
-use stale_model::{Bytes, End, Four, Judgement, Memory, Try, TwoPart, Verdict};
+use stale_model::{Bytes, End, Four, Judgement, Memory, Refutation, Try, TwoPart, Verdict};
 use std::alloc::{AllocError, Global};
 
 // Puts numbers behind a text, each after a blank.
@@ -26,7 +26,16 @@ fn push_line(text: &mut String, word: &str, numbers: &[u32]) -> Result<(), Alloc
 {
     text.push_str(word)?;
     push_numbers(text, numbers)?;
-    text.push_str("\n")
+    text.push_str("\n")?;
+    Ok(())
+}
+
+// Puts a line of a word and a number behind a text.
+fn push_number(text: &mut String, word: &str, number: u64) -> Result<(), AllocError>
+    ensures { OnOk result (string_bytes text.new ≡ string_bytes text.old ++ join_with_byte 32 (word.now ∷ map decimal (number ∷ [])) ++ codes "\n") }
+{
+    text.push_str(word)?;
+    write!(text, " {number}\n")
 }
 
 // Puts the end of a try behind a text.
@@ -47,7 +56,8 @@ fn push_try(text: &mut String, attempt: &Try) -> Result<(), AllocError>
     push_numbers(text, attempt.chain.as_slice())?;
     text.push_str(" ")?;
     push_end(text, &attempt.end)?;
-    text.push_str("\n")
+    text.push_str("\n")?;
+    Ok(())
 }
 
 // Puts the lines of tries behind a text.
@@ -61,6 +71,7 @@ fn push_tries(text: &mut String, tries: &[Try]) -> Result<(), AllocError>
 }
 
 // Puts the line of the pair behind a text, where there is one.
+#[tactic(auto, using(crate::proofs::WrittenLines::line_alone))]
 fn push_pair(text: &mut String, four: &Option<Four>) -> Result<(), AllocError>
     ensures { OnOk result (string_bytes text.new ≡ string_bytes text.old ++ lines_text (pair_lines four.now)) }
 {
@@ -70,20 +81,32 @@ fn push_pair(text: &mut String, four: &Option<Four>) -> Result<(), AllocError>
     }
 }
 
-// Puts the lines that say whether the key is 2-atomic behind a text.
+// Puts the lines that say that a key is 2-atomic behind a text.
+fn push_yes(text: &mut String, order: &[u32]) -> Result<(), AllocError>
+    ensures { OnOk result (string_bytes text.new ≡ string_bytes text.old ++ lines_text (two_lines (TwoPart.Yes order.now))) }
+{
+    text.push_str("two yes\n")?;
+    push_line(text, "order", order)?;
+    Ok(())
+}
+
+// Puts the lines that say that it is not behind a text.
+fn push_no(text: &mut String, refutation: &Refutation) -> Result<(), AllocError>
+    ensures { OnOk result (string_bytes text.new ≡ string_bytes text.old ++ lines_text (two_lines (TwoPart.No refutation.now))) }
+{
+    text.push_str("two no\n")?;
+    push_line(text, "stuck", refutation.stuck.as_slice())?;
+    push_tries(text, refutation.tries.as_slice())?;
+    Ok(())
+}
+
+// Puts the lines that say whether a key is 2-atomic behind a text.
 fn push_two(text: &mut String, two: &TwoPart) -> Result<(), AllocError>
     ensures { OnOk result (string_bytes text.new ≡ string_bytes text.old ++ lines_text (two_lines two.now)) }
 {
     match two {
-        TwoPart::Yes(order) => {
-            text.push_str("two yes\n")?;
-            push_line(text, "order", order.as_slice())
-        }
-        TwoPart::No(refutation) => {
-            text.push_str("two no\n")?;
-            push_line(text, "stuck", refutation.stuck.as_slice())?;
-            push_tries(text, refutation.tries.as_slice())
-        }
+        TwoPart::Yes(order) => push_yes(text, order.as_slice()),
+        TwoPart::No(refutation) => push_no(text, refutation),
     }
 }
 
@@ -91,14 +114,15 @@ fn push_two(text: &mut String, two: &TwoPart) -> Result<(), AllocError>
 fn push_judgement(text: &mut String, judgement: &Judgement) -> Result<(), AllocError>
     ensures { OnOk result (string_bytes text.new ≡ string_bytes text.old ++ lines_text (verdict_lines (Verdict.Judged judgement.now))) }
 {
-    let delta = judgement.delta;
-    write!(text, "delta {delta}\n")?;
+    push_number(text, "delta", judgement.delta)?;
     push_line(text, "order", judgement.order.as_slice())?;
     push_pair(text, &judgement.four)?;
-    push_two(text, &judgement.two)
+    push_two(text, &judgement.two)?;
+    Ok(())
 }
 
 // Puts the lines of a verdict behind a text.
+#[tactic(auto, using(crate::proofs::WrittenLines::line_alone))]
 fn push_verdict(text: &mut String, verdict: &Verdict) -> Result<(), AllocError>
     ensures { OnOk result (string_bytes text.new ≡ string_bytes text.old ++ lines_text (verdict_lines verdict.now)) }
 {
@@ -115,8 +139,7 @@ fn push_parts(text: &mut String, verdicts: &[Verdict]) -> Result<(), AllocError>
     ensures { OnOk result (string_bytes text.new ≡ string_bytes text.old ++ lines_text (parts_lines 1 verdicts.now)) }
 {
     for (place, verdict) in verdicts.iter().enumerate() {
-        let key = place + 1;
-        write!(text, "key {key}\n")?;
+        push_number(text, "key", place as u64 + 1)?;
         push_verdict(text, verdict)?;
     }
     Ok(())
