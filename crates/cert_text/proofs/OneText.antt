@@ -110,7 +110,7 @@ between_adds keys n vs (form.Key key) s few e = go (nat_lt (length vs) keys) ref
     go : (a : Bool) → nat_lt (length vs) keys ≡ a → (b : Bool) → (key == length vs + 1) ≡ b
         → cond (a && b) (Ok (record { state = state.Key; verdicts = vs })) (Err (fault.Key n)) ≡ Ok s → Adds keys (whole vs) (form.Key key) s
     go true p true q is = subst (Adds keys (whole vs) (form.Key key)) (ok_is is) (
-      record { lines = ap (λ k. whole vs ++ form.Key k ∷ []) (sym (eqb-true key (length vs + 1) q)); counts = ltb-true (length vs) keys p })
+        record { lines = ap (λ k. whole vs ++ form.Key k ∷ []) (sym (eqb-true key (length vs + 1) q)); counts = ltb-true (length vs) keys p })
     go true p false q is = absurd (cc)
     go false p b q is = absurd (cc)
 between_adds keys n vs form.End s few e = go (nat_lt (length vs) keys) refl e
@@ -196,8 +196,8 @@ stuck_adds keys n vs bound refutation (form.Try attempt) s few e =
     subst (Adds keys (begun vs (refuted_lines bound refutation)) (form.Try attempt)) (ok_is e)
     (record {
       lines = ap (λ ls. begun vs (bound_lines bound ++ form.TwoNo ∷ form.Stuck refutation.stuck ∷ ls)) (tries_more refutation.tries attempt)
-      ∙ ap (begun vs) (sym (append_assoc (bound_lines bound) (form.TwoNo ∷ form.Stuck refutation.stuck ∷ map form.Try refutation.tries) (form.Try attempt ∷ [])))
-      ∙ begun_more vs (refuted_lines bound refutation) (form.Try attempt);
+          ∙ ap (begun vs) (sym (append_assoc (bound_lines bound) (form.TwoNo ∷ form.Stuck refutation.stuck ∷ map form.Try refutation.tries) (form.Try attempt ∷ [])))
+          ∙ begun_more vs (refuted_lines bound refutation) (form.Try attempt);
       counts = few;
     })
 stuck_adds keys n vs bound refutation (form.Key key) s few e =
@@ -280,7 +280,7 @@ ended_completes keys n st done vs rest counts is = go (is_ended st) refl (is_emp
         let all : Counts keys state.Ended done = subst (λ x. Counts keys x done) s counts in
         record {
           text = ap (λ x. lines_text (lines_at x done) ++ rest) s ∙ ap (λ x. lines_text (whole done ++ form.End ∷ []) ++ x) t
-          ∙ append-nil (lines_text (whole done ++ form.End ∷ [])) ∙ ap cert_text d;
+              ∙ append-nil (lines_text (whole done ++ form.End ∷ [])) ∙ ap cert_text d;
           as_many = ap length (sym d) ∙ all;
         }
 
@@ -302,9 +302,9 @@ rest_completes keys n r (text ∷ next ∷ texts) vs counts is =
     let left = join_with_byte 10 (next ∷ texts) in
     record {
       text = ap (λ t. lines_text (lines_at r.state r.verdicts) ++ (t ++ 10 ∷ left)) (sym past.text_is)
-      ∙ one_line (lines_text (lines_at r.state r.verdicts)) (line_text past.line) left
-      ∙ ap (λ t. t ++ left) (sym (lines_text-append (lines_at r.state r.verdicts) (past.line ∷ []))) ∙ ap (λ ls. lines_text ls ++ left) (sym adds.lines)
-      ∙ later.text;
+          ∙ one_line (lines_text (lines_at r.state r.verdicts)) (line_text past.line) left
+          ∙ ap (λ t. t ++ left) (sym (lines_text-append (lines_at r.state r.verdicts) (past.line ∷ []))) ∙ ap (λ ls. lines_text ls ++ left) (sym adds.lines)
+          ∙ later.text;
       as_many = later.as_many;
     }
 

@@ -67,8 +67,8 @@ unfolding After
 tries_give keys done vs bound refutation tries [] ls is fit chains later =
     let all : refutation.tries ≡ tries = is ∙ append-nil tries in
     later (record { state = state.Refuted bound (record refutation { tries = tries }); verdicts = done }) (
-      let P : List Try → Type 0 = λ ts. RestsAt keys (record { state = state.Refuted bound (record refutation { tries = ts }); verdicts = done }) (done ++ judged bound (No refutation) ∷ []) in
-      subst P all (rests_refuted keys done bound refutation))
+    let P : List Try → Type 0 = λ ts. RestsAt keys (record { state = state.Refuted bound (record refutation { tries = ts }); verdicts = done }) (done ++ judged bound (No refutation) ∷ []) in
+    subst P all (rests_refuted keys done bound refutation))
 tries_give keys done vs bound refutation tries (attempt ∷ left) ls is fit chains later =
     let fits_parts = both (try_fits attempt) (list_all try_fits left) fit in
     let chain_parts = both (has_chain attempt) (list_all has_chain left) chains in

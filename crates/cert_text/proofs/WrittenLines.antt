@@ -44,22 +44,10 @@ try_behind old attempt a b c d e first second third fourth fifth =
     fifth ∙ ap (λ t. t ++ codes "\n") (fourth ∙ ap (λ t. t ++ end) (third ∙ ap (λ t. t ++ codes " ") (second ∙ ap (λ t. t ++ numbers_text attempt.chain) first)))
     ∙ regroup old (codes "try") (numbers_text attempt.chain) (codes " ") end ∙ ap (λ t. old ++ (t ++ codes "\n" ++ [])) (sym (try_words attempt.chain attempt.end))
 
--- the tries from one place on
-tries_text-drop : (tries : List Try) (i : ℕ) (attempt : Try) → i < length tries → attempt ≡ get_or tries i attempt
-    → lines_text (map form.Try (drop i tries)) ≡ lines_text (form.Try attempt ∷ []) ++ lines_text (map form.Try (drop (i + 1) tries))
-tries_text-drop tries i attempt within is =
-    rw (drop-cons tries i attempt within, add-one, ← is) (lines_text-append (form.Try attempt ∷ []) (map form.Try (drop (suc i) tries)))
-
 -- a line alone, behind a text, where it could be put there
 pub line_alone : {T E : Type 0} (r : Result T E) (new old line : List ℕ) → OnOk r (new ≡ old ++ line ++ codes "\n") → OnOk r (new ≡ old ++ (line ++ codes "\n" ++ []))
 line_alone (Ok x) new old line e = e ∙ simp append_assoc refl
 line_alone (Err f) new old line e = e
-
--- the tries that are left, behind a text
-pub tries_behind : (text : List ℕ) (tries : List Try) (i : ℕ) (attempt : Try) → i < length tries → attempt ≡ get_or tries i attempt
-    → text ++ lines_text (form.Try attempt ∷ []) ++ lines_text (map form.Try (drop (i + 1) tries)) ≡ text ++ lines_text (map form.Try (drop i tries))
-tries_behind text tries i attempt within is =
-    append_assoc text (lines_text (form.Try attempt ∷ [])) (lines_text (map form.Try (drop (i + 1) tries))) ∙ ap (λ t. text ++ t) (sym (tries_text-drop tries i attempt within is))
 
 -- the parts from one place on
 parts_text-drop : (verdicts : List Verdict) (i key : ℕ) (v : Verdict) → i < length verdicts → v ≡ get_or verdicts i v

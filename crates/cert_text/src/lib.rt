@@ -8,17 +8,14 @@ ghost use Rattle.cert_text.specs.Laws.{ReadHasOneText, TextReadsBack};
 mod lines;
 mod numbers;
 mod parts;
-
 mod words;
 mod writing;
-
-
-pub use writing::write_cert;
 
 use crate::parts::Reading;
 use crate::words::next_line;
 use stale_model::{List, Memory, Verdict};
 use std::alloc::Global;
+pub use writing::write_cert;
 
 /// Why a text is not a certificate. Lines are counted from 1.
 #[derive(Clone, Copy, Debug, PartialEq, Eq)]
@@ -82,3 +79,5 @@ pub fn what_is_written_reads_back()
     ensures { TextReadsBack }
 {}
 
+#[cfg(test)]
+mod tests;

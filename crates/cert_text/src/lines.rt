@@ -191,7 +191,12 @@ fn try_of(alloc: Global, line: u32, words: &[u8]) -> Result<CertLine, CertFault>
 }
 
 // The line that a keyword and the words after it are.
-pub(crate) fn line_of(alloc: Global, line: u32, keyword: Keyword, words: &[u8]) -> Result<CertLine, CertFault>
+pub(crate) fn line_of(
+    alloc: Global,
+    line: u32,
+    keyword: Keyword,
+    words: &[u8],
+) -> Result<CertLine, CertFault>
     ensures { (result ≡ Err CertFault.Memory) ⊎ (result ≡ line_of line keyword (words_after words.now)) }
 {
     match keyword {

@@ -97,7 +97,12 @@ fn numbers_of(alloc: Global, words: &[u8], count: usize) -> Result<Option<Vec<u3
 }
 
 // The records that the first `count` words are.
-pub(crate) fn first_records(alloc: Global, line: u32, words: &[u8], count: usize) -> Result<List<u32>, CertFault>
+pub(crate) fn first_records(
+    alloc: Global,
+    line: u32,
+    words: &[u8],
+    count: usize,
+) -> Result<List<u32>, CertFault>
     ensures { (result ≡ Err CertFault.Memory) ⊎ (result ≡ records_of line (take count (words_after words.now))) }
 {
     match numbers_of(alloc, words, count)? {

@@ -122,7 +122,12 @@ fn at_start(alloc: Global, line: u32, next: CertLine) -> Result<Reading, CertFau
 }
 
 // Between two parts.
-fn between(keys: u32, line: u32, verdicts: List<Verdict>, next: CertLine) -> Result<Reading, CertFault>
+fn between(
+    keys: u32,
+    line: u32,
+    verdicts: List<Verdict>,
+    next: CertLine,
+) -> Result<Reading, CertFault>
     ensures { result ≡ between keys line verdicts next }
 {
     let known = verdicts.as_slice().len();
@@ -161,7 +166,12 @@ fn after_key(line: u32, verdicts: List<Verdict>, next: CertLine) -> Result<Readi
 }
 
 // After delta.
-fn after_delta(line: u32, verdicts: List<Verdict>, delta: u64, next: CertLine) -> Result<Reading, CertFault>
+fn after_delta(
+    line: u32,
+    verdicts: List<Verdict>,
+    delta: u64,
+    next: CertLine,
+) -> Result<Reading, CertFault>
     ensures { result ≡ after_delta line verdicts delta next }
 {
     match next {
@@ -205,7 +215,12 @@ fn after_order(
 }
 
 // After the pair.
-fn after_pair(line: u32, verdicts: List<Verdict>, bound: Bound, next: CertLine) -> Result<Reading, CertFault>
+fn after_pair(
+    line: u32,
+    verdicts: List<Verdict>,
+    bound: Bound,
+    next: CertLine,
+) -> Result<Reading, CertFault>
     ensures { result ≡ after_pair line verdicts bound next }
 {
     let state = match next {
@@ -217,7 +232,12 @@ fn after_pair(line: u32, verdicts: List<Verdict>, bound: Bound, next: CertLine) 
 }
 
 // After `two yes`.
-fn after_yes(line: u32, verdicts: List<Verdict>, bound: Bound, next: CertLine) -> Result<Reading, CertFault>
+fn after_yes(
+    line: u32,
+    verdicts: List<Verdict>,
+    bound: Bound,
+    next: CertLine,
+) -> Result<Reading, CertFault>
     ensures { (result ≡ Err CertFault.Memory) ⊎ (result ≡ after_yes line verdicts bound next) }
 {
     match next {
@@ -227,7 +247,13 @@ fn after_yes(line: u32, verdicts: List<Verdict>, bound: Bound, next: CertLine) -
 }
 
 // After `two no`.
-fn after_no(alloc: Global, line: u32, verdicts: List<Verdict>, bound: Bound, next: CertLine) -> Result<Reading, CertFault>
+fn after_no(
+    alloc: Global,
+    line: u32,
+    verdicts: List<Verdict>,
+    bound: Bound,
+    next: CertLine,
+) -> Result<Reading, CertFault>
     ensures { result ≡ after_no line verdicts bound next }
 {
     match next {
@@ -283,7 +309,13 @@ impl Reading {
     }
 
     // Goes past one line.
-    fn advance(self, alloc: Global, keys: u32, line: u32, next: CertLine) -> Result<Reading, CertFault>
+    fn advance(
+        self,
+        alloc: Global,
+        keys: u32,
+        line: u32,
+        next: CertLine,
+    ) -> Result<Reading, CertFault>
         ensures { (result ≡ Err CertFault.Memory) ⊎ (result ≡ advance keys line self next) }
     {
         let Reading { state, verdicts } = self;
@@ -304,7 +336,13 @@ impl Reading {
     }
 
     /// Goes past the line of this number, which has this text.
-    pub(crate) fn step(self, alloc: Global, keys: u32, line: u32, text: &[u8]) -> Result<Reading, CertFault>
+    pub(crate) fn step(
+        self,
+        alloc: Global,
+        keys: u32,
+        line: u32,
+        text: &[u8],
+    ) -> Result<Reading, CertFault>
         ensures { (result ≡ Err CertFault.Memory) ⊎ (result ≡ step keys line self (words_of text.now)) }
     {
         let (first, words) = first_word(text);
