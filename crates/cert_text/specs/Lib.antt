@@ -1,5 +1,4 @@
 pub mod Numbers
-pub mod Lines
 pub mod Texts
 pub mod Certificates
 pub mod Words

@@ -24,6 +24,7 @@ step keys n r [] = Err (fault.Line n)
 step keys n r (first ∷ rest) =
     if is_empty first || list_any is_empty rest then Err (fault.Line n) else step_by keys n r rest (keyword_of first)
 
+-- whether the line `end` was read
 abbrev pub is_ended : State → Bool
 is_ended state.Ended = true
 is_ended _ = false

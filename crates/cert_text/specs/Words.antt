@@ -24,6 +24,7 @@ abbrev pub words_after : List ℕ → List (List ℕ)
 words_after [] = []
 words_after (blank ∷ text) = words_of text
 
+-- whether a text has no byte
 abbrev pub is_empty : List ℕ → Bool
 is_empty text = length text == 0
 
@@ -82,9 +83,11 @@ abbrev pub four_of : ℕ → List ℕ → Result CertLine CertFault
 four_of n (p ∷ q ∷ q2 ∷ p2 ∷ []) = Ok (form.Pair (record { p = p; q = q; q2 = q2; p2 = p2 }))
 four_of n _ = Err (fault.Line n)
 
+-- the pair that words are: there are four of them
 abbrev pub pair_of : ℕ → List (List ℕ) → Result CertLine CertFault
 pair_of n ws = if length ws == 4 then then_next (records_of n ws) (four_of n) else Err (fault.Line n)
 
+-- whether the key is 2-atomic, as the only word says
 abbrev pub two_of : ℕ → List (List ℕ) → Result CertLine CertFault
 two_of n ws =
     if is_word (codes "yes") (only_word ws) then Ok form.TwoYes

@@ -20,14 +20,14 @@ pub use writing::write_cert;
 /// Why a text is not a certificate. Lines are counted from 1.
 #[derive(Clone, Copy, Debug, PartialEq, Eq)]
 pub enum CertFault {
-    /// The line is not there, is not ended by a line feed, has an empty word, begins with a word that may
-    /// not stand there, has another number of words than its form, or another word where its form has a
-    /// fixed one.
+    /// The line is not there, is not ended by a line feed, has an empty word, begins with a word that
+    /// may not stand there, has another number of words than its form, or another word where its form
+    /// has a fixed one.
     Line { line: u32 },
     /// A word in a number's place is no number, or is out of range.
     Number { line: u32 },
-    /// The number of a `key` line is not one more than that of the `key` line before (1 for the first), or is
-    /// greater than the number of keys.
+    /// The number of a `key` line is not one more than that of the `key` line before (1 for the first),
+    /// or is greater than the number of keys.
     Key { line: u32 },
     /// The line `end` comes before the part of this key, counted from 1.
     Absent { key: u32 },
@@ -48,9 +48,12 @@ impl From<Memory> for CertFault {
 
 /// The verdicts of so many keys that a text is, in the order of the keys.
 ///
+/// The text is lines of words between single blanks, each line ended by a line feed: the header, a part
+/// for each key, and `end`. `keys` is the number of keys of the history that the certificate is of.
+///
 /// # Errors
-/// The fault of the first line at fault, and within a line the first of `Line`, `Number`, `Key` and `Absent`.
-/// A byte after the line `end` is a fault of the line after it. `Memory` may come at any time.
+/// The fault of the first line at fault, and within a line the first of `Line`, `Number`, `Key` and
+/// `Absent`. A byte after the line `end` is a fault of the line after it. `Memory` may come at any time.
 pub fn read_cert(alloc: Global, keys: u32, text: &[u8]) -> Result<List<Verdict>, CertFault>
     requires { length text.now < 2 ^ 32 - 1 }
     ensures read { (result ≡ Err CertFault.Memory) ⊎ (result ≡ read_of keys text.now) }
@@ -67,14 +70,14 @@ pub fn read_cert(alloc: Global, keys: u32, text: &[u8]) -> Result<List<Verdict>,
     reading.end(line, rest)
 }
 
-/// What is read has one text: where a text reads as verdicts, it is the text that `write_cert` writes of them,
-/// and they are as many as the keys.
+/// What is read has one text: where a text reads as verdicts, it is the text that `write_cert` writes
+/// of them, and they are as many as the keys.
 pub fn what_is_read_has_one_text()
     ensures { ReadHasOneText }
 {}
 
-/// What is written reads back: the text of verdicts reads as them, where their numbers fit their types and each
-/// try has a chain that is not empty.
+/// What is written reads back: the text of verdicts reads as them, where their numbers fit their types
+/// and each try has a chain that is not empty.
 pub fn what_is_written_reads_back()
     ensures { TextReadsBack }
 {}

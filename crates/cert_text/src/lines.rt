@@ -43,7 +43,7 @@ pub(crate) enum CertLine {
     End,
 }
 
-// The keyword that a word is.
+/// The keyword that a word is.
 pub(crate) fn keyword_of(word: &[u8]) -> Option<Keyword>
     ensures { result ≡ keyword_of word.now }
 {
@@ -140,10 +140,11 @@ fn two_of(line: u32, words: &[u8]) -> Result<CertLine, CertFault>
     }
 }
 
-// The try whose chain is the first `count` words, and whose hard end stands after the word that follows them.
+// The try whose chain is the first `count` words, and whose hard end stands after the next word.
 fn hard_try(alloc: Global, line: u32, words: &[u8], count: usize) -> Result<CertLine, CertFault>
     requires { count + 1 < 2 ^ 64 }
-    ensures { (result ≡ Err CertFault.Memory) ⊎ (result ≡ try_at line count (hard_of line) (words_after words.now)) }
+    ensures { (result ≡ Err CertFault.Memory)
+        ⊎ (result ≡ try_at line count (hard_of line) (words_after words.now)) }
 {
     let chain = first_records(alloc, line, words, count)?;
     let end = records_of(alloc, line, skip_words(words, count + 1))?;
@@ -159,7 +160,8 @@ fn hard_try(alloc: Global, line: u32, words: &[u8], count: usize) -> Result<Cert
 // The same for a soft end.
 fn soft_try(alloc: Global, line: u32, words: &[u8], count: usize) -> Result<CertLine, CertFault>
     requires { count + 1 < 2 ^ 64 }
-    ensures { (result ≡ Err CertFault.Memory) ⊎ (result ≡ try_at line count (soft_of line) (words_after words.now)) }
+    ensures { (result ≡ Err CertFault.Memory)
+        ⊎ (result ≡ try_at line count (soft_of line) (words_after words.now)) }
 {
     let chain = first_records(alloc, line, words, count)?;
     let end = records_of(alloc, line, skip_words(words, count + 1))?;
@@ -190,14 +192,15 @@ fn try_of(alloc: Global, line: u32, words: &[u8]) -> Result<CertLine, CertFault>
     Err(CertFault::Line { line })
 }
 
-// The line that a keyword and the words after it are.
+/// The line that a keyword and the words after it are.
 pub(crate) fn line_of(
     alloc: Global,
     line: u32,
     keyword: Keyword,
     words: &[u8],
 ) -> Result<CertLine, CertFault>
-    ensures { (result ≡ Err CertFault.Memory) ⊎ (result ≡ line_of line keyword (words_after words.now)) }
+    ensures { (result ≡ Err CertFault.Memory)
+        ⊎ (result ≡ line_of line keyword (words_after words.now)) }
 {
     match keyword {
         Keyword::StaleCert => header_of(line, words),

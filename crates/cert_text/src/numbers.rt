@@ -54,7 +54,7 @@ fn number_of(word: &[u8], most: u64) -> Option<u64>
     if number <= most { Some(number) } else { None }
 }
 
-// The number that the only word is.
+/// The number that the only word is.
 pub(crate) fn one_number(line: u32, words: &[u8], most: u64) -> Result<u64, CertFault>
     ensures { result ≡ one_number line most (words_after words.now) }
 {
@@ -67,7 +67,7 @@ pub(crate) fn one_number(line: u32, words: &[u8], most: u64) -> Result<u64, Cert
     }
 }
 
-// The record or the key that the only word is.
+/// The record or the key that the only word is.
 pub(crate) fn one_record(line: u32, words: &[u8]) -> Result<u32, CertFault>
     ensures { result ≡ one_number line most_record (words_after words.now) }
 {
@@ -77,7 +77,8 @@ pub(crate) fn one_record(line: u32, words: &[u8]) -> Result<u32, CertFault>
 
 // The numbers that the first `count` words are, in a list with room for no more.
 fn numbers_of(alloc: Global, words: &[u8], count: usize) -> Result<Option<Vec<u32>>, Memory>
-    ensures { IfOk result (λ numbers. option_map (λ ns. ns.items) numbers ≡ numbers_of most_record (take count (words_after words.now))) }
+    ensures { IfOk result (λ numbers. option_map (λ ns. ns.items) numbers
+        ≡ numbers_of most_record (take count (words_after words.now))) }
 {
     let mut numbers = Vec::with_capacity(alloc, count).map_err(|_| Memory)?;
     let mut left = count;
@@ -96,14 +97,15 @@ fn numbers_of(alloc: Global, words: &[u8], count: usize) -> Result<Option<Vec<u3
     Ok(Some(numbers))
 }
 
-// The records that the first `count` words are.
+/// The records that the first `count` words are.
 pub(crate) fn first_records(
     alloc: Global,
     line: u32,
     words: &[u8],
     count: usize,
 ) -> Result<List<u32>, CertFault>
-    ensures { (result ≡ Err CertFault.Memory) ⊎ (result ≡ records_of line (take count (words_after words.now))) }
+    ensures { (result ≡ Err CertFault.Memory)
+        ⊎ (result ≡ records_of line (take count (words_after words.now))) }
 {
     match numbers_of(alloc, words, count)? {
         Some(numbers) => Ok(List::from_vec(numbers)),
@@ -111,7 +113,7 @@ pub(crate) fn first_records(
     }
 }
 
-// The records that words are.
+/// The records that words are.
 pub(crate) fn records_of(alloc: Global, line: u32, words: &[u8]) -> Result<List<u32>, CertFault>
     ensures { (result ≡ Err CertFault.Memory) ⊎ (result ≡ records_of line (words_after words.now)) }
 {

@@ -98,7 +98,8 @@ fn judged(bound: Bound, two: TwoPart) -> Verdict
 
 // A refutation with one try more.
 fn with_try(refutation: Refutation, attempt: Try) -> Result<Refutation, Memory>
-    ensures { IfOk result (λ r. r ≡ record refutation { tries = refutation.tries ++ attempt ∷ [] }) }
+    ensures { IfOk result (λ r. r
+        ≡ record refutation { tries = refutation.tries ++ attempt ∷ [] }) }
 {
     let mut tries = refutation.tries.into_vec();
     tries.push(attempt).map_err(|_| Memory)?;
@@ -280,7 +281,8 @@ fn after_stuck(
     refutation: Refutation,
     next: CertLine,
 ) -> Result<Reading, CertFault>
-    ensures { (result ≡ Err CertFault.Memory) ⊎ (result ≡ after_stuck keys line verdicts bound refutation next) }
+    ensures { (result ≡ Err CertFault.Memory)
+        ⊎ (result ≡ after_stuck keys line verdicts bound refutation next) }
 {
     match next {
         CertLine::Try(attempt) => {
@@ -343,7 +345,8 @@ impl Reading {
         line: u32,
         text: &[u8],
     ) -> Result<Reading, CertFault>
-        ensures { (result ≡ Err CertFault.Memory) ⊎ (result ≡ step keys line self (words_of text.now)) }
+        ensures { (result ≡ Err CertFault.Memory)
+            ⊎ (result ≡ step keys line self (words_of text.now)) }
     {
         let (first, words) = first_word(text);
         if first.is_empty() || has_empty_word(words) {

@@ -10,7 +10,7 @@ fn place_of(text: &[u8], byte: u8) -> Option<usize>
     text.iter().position(|other| *other == byte)
 }
 
-// The next line of a text, and what stands after it, if there is one.
+/// The next line of a text, and what stands after it, if there is one.
 pub(crate) fn next_line(text: &[u8]) -> Option<(&[u8], &[u8])>
     ensures none { IfNone result (lines_of text.now ≡ text.now ∷ []) }
     ensures some { IfSome result (λ p. lines_of text.now ≡ p.0.now ∷ lines_of p.1.now) }
@@ -22,7 +22,7 @@ pub(crate) fn next_line(text: &[u8]) -> Option<(&[u8], &[u8])>
     }
 }
 
-// The first word of a text, and the rest, where a blank stands before each word.
+/// The first word of a text, and the rest, where a blank stands before each word.
 pub(crate) fn first_word(text: &[u8]) -> (&[u8], &[u8])
     ensures word { words_of text.now ≡ result.0.now ∷ words_after result.1.now }
     ensures shorter { length result.1.now ≤ length text.now }
@@ -33,7 +33,7 @@ pub(crate) fn first_word(text: &[u8]) -> (&[u8], &[u8])
     }
 }
 
-// The next word after a blank, and the rest.
+/// The next word after a blank, and the rest.
 pub(crate) fn next_word(text: &[u8]) -> Option<(&[u8], &[u8])>
     ensures none { IfNone result (words_after text.now ≡ []) }
     ensures some { IfSome result (λ p. words_after text.now ≡ p.0.now ∷ words_after p.1.now) }
@@ -45,7 +45,7 @@ pub(crate) fn next_word(text: &[u8]) -> Option<(&[u8], &[u8])>
     }
 }
 
-// Whether one of the words is empty.
+/// Whether one of the words is empty.
 pub(crate) fn has_empty_word(text: &[u8]) -> bool
     ensures { result ≡ list_any is_empty (words_after text.now) }
 {
@@ -59,7 +59,7 @@ pub(crate) fn has_empty_word(text: &[u8]) -> bool
     false
 }
 
-// How many words there are.
+/// How many words there are.
 pub(crate) fn count_words(text: &[u8]) -> usize
     ensures { result ≡ length (words_after text.now) }
 {
@@ -72,7 +72,7 @@ pub(crate) fn count_words(text: &[u8]) -> usize
     count
 }
 
-// The words after the first so many.
+/// The words after the first so many.
 pub(crate) fn skip_words(text: &[u8], count: usize) -> &[u8]
     ensures { words_after result.now ≡ drop count (words_after text.now) }
 {
@@ -88,7 +88,7 @@ pub(crate) fn skip_words(text: &[u8], count: usize) -> &[u8]
     rest
 }
 
-// The word at a place, counted from 0, and the rest after it.
+/// The word at a place, counted from 0, and the rest after it.
 pub(crate) fn word_at(text: &[u8], place: usize) -> Option<&[u8]>
     ensures { option_map (λ word. word.now) result ≡ slice_get (words_after text.now) place }
 {
@@ -98,7 +98,7 @@ pub(crate) fn word_at(text: &[u8], place: usize) -> Option<&[u8]>
     }
 }
 
-// The only word, if there is one and no other.
+/// The only word, if there is one and no other.
 pub(crate) fn only_word(text: &[u8]) -> Option<&[u8]>
     ensures { option_map (λ word. word.now) result ≡ only_word (words_after text.now) }
 {

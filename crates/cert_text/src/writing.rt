@@ -12,7 +12,8 @@ use std::alloc::{AllocError, Global};
 
 // Puts numbers behind a text, each after a blank.
 fn push_numbers(text: &mut String, numbers: &[u32]) -> Result<(), AllocError>
-    ensures { OnOk result (string_bytes text.new ≡ string_bytes text.old ++ numbers_text numbers.now) }
+    ensures { OnOk result (string_bytes text.new
+        ≡ string_bytes text.old ++ numbers_text numbers.now) }
 {
     for number in numbers {
         write!(text, " {number}")?;
@@ -22,7 +23,9 @@ fn push_numbers(text: &mut String, numbers: &[u32]) -> Result<(), AllocError>
 
 // Puts a line of a word and numbers behind a text.
 fn push_line(text: &mut String, word: &str, numbers: &[u32]) -> Result<(), AllocError>
-    ensures { OnOk result (string_bytes text.new ≡ string_bytes text.old ++ join_with_byte 32 (word.now ∷ map decimal numbers.now) ++ codes "\n") }
+    ensures { OnOk result (string_bytes text.new
+        ≡ string_bytes text.old ++ join_with_byte 32 (word.now ∷ map decimal numbers.now)
+        ++ codes "\n") }
 {
     text.push_str(word)?;
     push_numbers(text, numbers)?;
@@ -32,7 +35,9 @@ fn push_line(text: &mut String, word: &str, numbers: &[u32]) -> Result<(), Alloc
 
 // Puts a line of a word and a number behind a text.
 fn push_number(text: &mut String, word: &str, number: u64) -> Result<(), AllocError>
-    ensures { OnOk result (string_bytes text.new ≡ string_bytes text.old ++ join_with_byte 32 (word.now ∷ map decimal (number ∷ [])) ++ codes "\n") }
+    ensures { OnOk result (string_bytes text.new
+        ≡ string_bytes text.old ++ join_with_byte 32 (word.now ∷ map decimal (number ∷ []))
+        ++ codes "\n") }
 {
     text.push_str(word)?;
     write!(text, " {number}\n")
@@ -40,7 +45,8 @@ fn push_number(text: &mut String, word: &str, number: u64) -> Result<(), AllocEr
 
 // Puts the end of a try behind a text.
 fn push_end(text: &mut String, end: &End) -> Result<(), AllocError>
-    ensures { OnOk result (string_bytes text.new ≡ string_bytes text.old ++ join_with_byte 32 (end_words end.now)) }
+    ensures { OnOk result (string_bytes text.new
+        ≡ string_bytes text.old ++ join_with_byte 32 (end_words end.now)) }
 {
     match end {
         End::Hard { p, u } => write!(text, "hard {p} {u}"),
@@ -50,7 +56,8 @@ fn push_end(text: &mut String, end: &End) -> Result<(), AllocError>
 
 // Puts the line of a try behind a text.
 fn push_try(text: &mut String, attempt: &Try) -> Result<(), AllocError>
-    ensures { OnOk result (string_bytes text.new ≡ string_bytes text.old ++ lines_text (CertLine.Try attempt.now ∷ [])) }
+    ensures { OnOk result (string_bytes text.new
+        ≡ string_bytes text.old ++ lines_text (CertLine.Try attempt.now ∷ [])) }
 {
     text.push_str("try")?;
     push_numbers(text, attempt.chain.as_slice())?;
@@ -62,7 +69,8 @@ fn push_try(text: &mut String, attempt: &Try) -> Result<(), AllocError>
 
 // Puts the lines of tries behind a text.
 fn push_tries(text: &mut String, tries: &[Try]) -> Result<(), AllocError>
-    ensures { OnOk result (string_bytes text.new ≡ string_bytes text.old ++ lines_text (map CertLine.Try tries.now)) }
+    ensures { OnOk result (string_bytes text.new
+        ≡ string_bytes text.old ++ lines_text (map CertLine.Try tries.now)) }
 {
     for attempt in tries {
         push_try(text, attempt)?;
@@ -73,7 +81,8 @@ fn push_tries(text: &mut String, tries: &[Try]) -> Result<(), AllocError>
 // Puts the line of the pair behind a text, where there is one.
 #[tactic(auto, using(crate::proofs::WrittenLines::line_alone))]
 fn push_pair(text: &mut String, four: &Option<Four>) -> Result<(), AllocError>
-    ensures { OnOk result (string_bytes text.new ≡ string_bytes text.old ++ lines_text (pair_lines four.now)) }
+    ensures { OnOk result (string_bytes text.new
+        ≡ string_bytes text.old ++ lines_text (pair_lines four.now)) }
 {
     match four {
         Some(four) => push_line(text, "pair", &[four.p, four.q, four.q2, four.p2]),
@@ -83,7 +92,8 @@ fn push_pair(text: &mut String, four: &Option<Four>) -> Result<(), AllocError>
 
 // Puts the lines that say that a key is 2-atomic behind a text.
 fn push_yes(text: &mut String, order: &[u32]) -> Result<(), AllocError>
-    ensures { OnOk result (string_bytes text.new ≡ string_bytes text.old ++ lines_text (two_lines (TwoPart.Yes order.now))) }
+    ensures { OnOk result (string_bytes text.new
+        ≡ string_bytes text.old ++ lines_text (two_lines (TwoPart.Yes order.now))) }
 {
     text.push_str("two yes\n")?;
     push_line(text, "order", order)?;
@@ -92,7 +102,8 @@ fn push_yes(text: &mut String, order: &[u32]) -> Result<(), AllocError>
 
 // Puts the lines that say that it is not behind a text.
 fn push_no(text: &mut String, refutation: &Refutation) -> Result<(), AllocError>
-    ensures { OnOk result (string_bytes text.new ≡ string_bytes text.old ++ lines_text (two_lines (TwoPart.No refutation.now))) }
+    ensures { OnOk result (string_bytes text.new
+        ≡ string_bytes text.old ++ lines_text (two_lines (TwoPart.No refutation.now))) }
 {
     text.push_str("two no\n")?;
     push_line(text, "stuck", refutation.stuck.as_slice())?;
@@ -102,7 +113,8 @@ fn push_no(text: &mut String, refutation: &Refutation) -> Result<(), AllocError>
 
 // Puts the lines that say whether a key is 2-atomic behind a text.
 fn push_two(text: &mut String, two: &TwoPart) -> Result<(), AllocError>
-    ensures { OnOk result (string_bytes text.new ≡ string_bytes text.old ++ lines_text (two_lines two.now)) }
+    ensures { OnOk result (string_bytes text.new
+        ≡ string_bytes text.old ++ lines_text (two_lines two.now)) }
 {
     match two {
         TwoPart::Yes(order) => push_yes(text, order.as_slice()),
@@ -112,7 +124,8 @@ fn push_two(text: &mut String, two: &TwoPart) -> Result<(), AllocError>
 
 // Puts the lines of a judgement behind a text.
 fn push_judgement(text: &mut String, judgement: &Judgement) -> Result<(), AllocError>
-    ensures { OnOk result (string_bytes text.new ≡ string_bytes text.old ++ lines_text (verdict_lines (Verdict.Judged judgement.now))) }
+    ensures { OnOk result (string_bytes text.new
+        ≡ string_bytes text.old ++ lines_text (verdict_lines (Verdict.Judged judgement.now))) }
 {
     push_number(text, "delta", judgement.delta)?;
     push_line(text, "order", judgement.order.as_slice())?;
@@ -124,7 +137,8 @@ fn push_judgement(text: &mut String, judgement: &Judgement) -> Result<(), AllocE
 // Puts the lines of a verdict behind a text.
 #[tactic(auto, using(crate::proofs::WrittenLines::line_alone))]
 fn push_verdict(text: &mut String, verdict: &Verdict) -> Result<(), AllocError>
-    ensures { OnOk result (string_bytes text.new ≡ string_bytes text.old ++ lines_text (verdict_lines verdict.now)) }
+    ensures { OnOk result (string_bytes text.new
+        ≡ string_bytes text.old ++ lines_text (verdict_lines verdict.now)) }
 {
     match verdict {
         Verdict::Duplicate { rec } => push_line(text, "duplicate", &[*rec]),
@@ -136,7 +150,8 @@ fn push_verdict(text: &mut String, verdict: &Verdict) -> Result<(), AllocError>
 
 // Puts the parts of all keys behind a text.
 fn push_parts(text: &mut String, verdicts: &[Verdict]) -> Result<(), AllocError>
-    ensures { OnOk result (string_bytes text.new ≡ string_bytes text.old ++ lines_text (parts_lines 1 verdicts.now)) }
+    ensures { OnOk result (string_bytes text.new
+        ≡ string_bytes text.old ++ lines_text (parts_lines 1 verdicts.now)) }
 {
     for (place, verdict) in verdicts.iter().enumerate() {
         push_number(text, "key", place as u64 + 1)?;
@@ -155,9 +170,9 @@ fn cert_text(alloc: Global, verdicts: &[Verdict]) -> Result<String, AllocError>
     Ok(text)
 }
 
-/// The text of a certificate: the header `stale-cert 1`, a part for each verdict, under the numbers of the
-/// keys from 1 on, and `end`, each line ended by a line feed. What it says reads back where each try has a
-/// chain that is not empty, and there are fewer than 2^32 verdicts.
+/// The text of a certificate: the header `stale-cert 1`, a part for each verdict, under the numbers of
+/// the keys from 1 on, and `end`, each line ended by a line feed. There are fewer than 2^32 verdicts, and
+/// each try has a chain that is not empty.
 ///
 /// # Errors
 /// `Memory` is the only one.
