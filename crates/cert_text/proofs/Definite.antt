@@ -16,9 +16,9 @@ use Rattle.cert_text.specs.declared.parts.State.{State}
 use Rattle.cert_text.specs.declared.parts.State.TheVariants as state
 use Rattle.cert_text.specs.declared.parts.Reading.{Reading}
 use Rattle.cert_text.specs.Numbers.{most_record, number_of, numbers_of}
-use Rattle.cert_text.specs.Words.{words_of, lines_of, is_empty, keyword_of, then_next, or_number, only_word, is_word, number_in, one_number, records_of, four_of, pair_of, two_of, hard_of, soft_of, try_at, try_of, line_of}
+use Rattle.cert_text.specs.Words.{words_of, lines_of, is_empty, keyword_of, then_next, or_number, only_word, is_word, number_in, one_number, records_of, four_of, hard_of, soft_of, try_at, line_of}
 use Rattle.cert_text.specs.Parts.{may_stand, judged, at_start, between, after_key, after_delta, after_order, after_pair, after_yes, after_no, after_stuck, advance_from, advance}
-use Rattle.cert_text.specs.Reading.{step, step_by, is_ended, at_end, read_from, read_of}
+use Rattle.cert_text.specs.Reading.{step, step_by, is_ended, read_from, read_of}
 
 -- an answer that is not want of memory
 abbrev pub IsDefinite : {Y : Type 0} → Result Y CertFault → Type 0

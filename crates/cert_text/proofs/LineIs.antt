@@ -4,7 +4,6 @@ use Rattle.std.specs.Prelude.{slice_get, option_and_then}
 use Rattle.std.specs.Str.{bytes_eq}
 use Rattle.std.specs.Fmt.{decimal}
 use Rattle.std.proofs.lemmas.Slice.Eq.{bytes_eq-Decides}
-use Rattle.stale_model.specs.declared.End.TheVariants.{Hard, Soft}
 use Rattle.cert_text.specs.declared.CertFault.{CertFault}
 use Rattle.cert_text.specs.declared.CertFault.TheVariants as fault
 use Rattle.cert_text.specs.declared.lines.CertLine.{CertLine}
@@ -12,8 +11,8 @@ use Rattle.cert_text.specs.declared.lines.CertLine.TheVariants as form
 use Rattle.cert_text.specs.declared.lines.Keyword.{Keyword}
 use Rattle.cert_text.specs.declared.lines.Keyword.TheVariants as word
 use Rattle.cert_text.specs.Numbers.{most_record, most_delta, number_of, numbers_of}
-use Rattle.cert_text.specs.Words.{keyword_of, then_next, or_number, only_word, is_word, number_in, one_number, records_of, four_of, pair_of, two_of, hard_of, soft_of, try_at, try_of, line_of}
-use Rattle.cert_text.proofs.Numerals.{both, decimal-number_of}
+use Rattle.cert_text.specs.Words.{keyword_of, then_next, or_number, only_word, is_word, one_number, records_of, four_of, pair_of, two_of, hard_of, soft_of, try_at, try_of, line_of}
+use Rattle.cert_text.proofs.Numerals.{decimal-number_of}
 use Rattle.cert_text.proofs.Places.{cut-at}
 use Rattle.cert_text.proofs.LineWords.{keyword_text, keyword, other_words}
 
@@ -21,9 +20,6 @@ use Rattle.cert_text.proofs.LineWords.{keyword_text, keyword, other_words}
 pub record IsLine (k : Keyword) (ws : List (List ℕ)) (l : CertLine) : Type 0 where
   pub keyword_is : k ≡ keyword l
   pub words_are : ws ≡ other_words l
-
-same_bytes : (a b : List ℕ) → bytes_eq a b ≡ true → a ≡ b
-same_bytes a b e = (bytes_eq-Decides a b).0 e
 
 pub ok_is : {X : Type 0} {x y : X} → ◌≡◌ {A = Result X CertFault} (Ok x) (Ok y) → x ≡ y
 ok_is e = cc
@@ -37,7 +33,7 @@ keyword_test : (w : List ℕ) (j k : Keyword) (rest : Option Keyword) → (bytes
 keyword_test w j k rest later e = go (bytes_eq w (keyword_text j)) refl e
   where
     go : (b : Bool) → bytes_eq w (keyword_text j) ≡ b → cond b (Some j) rest ≡ Some k → w ≡ keyword_text k
-    go true t s = same_bytes w (keyword_text j) t ∙ ap keyword_text (some_is s)
+    go true t s = (bytes_eq-Decides w (keyword_text j)).0 t ∙ ap keyword_text (some_is s)
     go false t s = later t s
 
 -- a word that reads as a keyword is its text
@@ -96,7 +92,7 @@ records_line n k ws make l made e =
 -- a word that is there and is this one
 word_is : (text : List ℕ) (o : Option (List ℕ)) → is_word text o ≡ true → o ≡ Some text
 word_is text None e = absurd (true≢false (sym e))
-word_is text (Some w) e = ap Some (same_bytes w text e)
+word_is text (Some w) e = ap Some ((bytes_eq-Decides w text).0 e)
 
 only_is : (w : List ℕ) (ws : List (List ℕ)) → only_word ws ≡ Some w → ws ≡ w ∷ []
 only_is w [] e = absurd (cc)

@@ -1,5 +1,5 @@
 -- The words of a line read as it.
-use Rattle.std.proofs.Common.{◌≡◌, ◌<◌, ◌≤◌, ◌+◌, ◌-◌, ◌^◌, ◌&&◌, ℕ, Bool, true, false, suc, List, [], ◌∷◌, ◌++◌, map, length, take, drop, Some, Result, Ok, refl, sym, ◌∙◌, ap, arith, codes, true≢false, nat_le, lit<, add-one, subst}
+use Rattle.std.proofs.Common.{◌≡◌, ◌<◌, ◌+◌, ◌-◌, ◌^◌, ℕ, Bool, true, false, suc, List, [], ◌∷◌, ◌++◌, map, length, drop, Some, Result, Ok, refl, sym, ◌∙◌, ap, arith, codes, true≢false, nat_le, lit<, add-one}
 use Rattle.std.proofs.lemmas.Bool.{leb-true, le-leb, ltb-true}
 use Rattle.std.proofs.lemmas.Slice.Eq.{bytes_eq-Decides}
 use Rattle.std.specs.Prelude.{slice_get}

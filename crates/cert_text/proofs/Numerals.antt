@@ -8,7 +8,6 @@ use Rattle.std.specs.Str.Parse.{digits_value, ParsesUnsigned}
 use Rattle.std.proofs.lemmas.Bool.Decides.{nat_tests}
 use Rattle.std.proofs.lemmas.Bool.{leb-true, le-leb}
 use Rattle.std.specs.Result.{OkIff}
-use Rattle.std.proofs.lemmas.Result.{OkIff-at_ok}
 use Rattle.std.proofs.lemmas.Str.{IsUtf8-from_ascii}
 use Rattle.std.proofs.lemmas.Str.Parse.{IsNumeralModel, numerals_by_value, parse_digits}
 use Rattle.std.proofs.lemmas.Fmt.{first_decimal, decimal-digits_value, digits_decimal, digits_value-decimal, IsAscii-from_digits, decimal_digit}
@@ -44,9 +43,6 @@ refused_numeral word most r e fits is parses err = go (nat_le (digits_value 10 w
     go : (b : Bool) → nat_le (digits_value 10 word) most ≡ b → number_of most word ≡ None
     go true t = absurd (none (some, omega (arith, leb-true _ _ t)))
     go false t = rw (is, t) refl
-
-pub read_numeral : {E : Type 0} (word : List ℕ) (n : ℕ) (r : Result ℕ E) → is_numeral word ≡ true → ParsesUnsigned 64 10 word r → r ≡ Ok n → n ≡ digits_value 10 word
-read_numeral word n r is parses ok = (OkIff-at_ok r _ _ n (parse_digits own 64 word r parses (both _ _ is).1) ok).1
 
 above_48 : (d : ℕ) → 48 < d → (d == 48) ≡ false
 above_48 d h = grind (arith, nat_tests)

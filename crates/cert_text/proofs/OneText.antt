@@ -1,5 +1,5 @@
 -- What is read has one text.
-use Rattle.std.proofs.Common.{◌≡◌, ◌<◌, ◌≤◌, ◌+◌, ◌==◌, ◌&&◌, ◌||◌, ℕ, Bool, true, false, cond, nat_lt, List, [], ◌∷◌, ◌++◌, map, length, Option, Some, None, Result, Ok, Err, refl, sym, ◌∙◌, ap, subst, arith, codes, append_assoc, append-nil, true≢false, eqb-true}
+use Rattle.std.proofs.Common.{◌≡◌, ◌<◌, ◌≤◌, ◌+◌, ◌==◌, ◌&&◌, ◌||◌, ℕ, Bool, true, false, cond, nat_lt, List, [], ◌∷◌, ◌++◌, map, length, Option, Some, None, Ok, Err, refl, sym, ◌∙◌, ap, subst, arith, append_assoc, append-nil, true≢false, eqb-true}
 use Rattle.std.specs.List.{list_any, join_with_byte}
 use Rattle.std.proofs.lemmas.Bool.{ltb-true, ltb-false}
 use Rattle.std.proofs.lemmas.List.{length_push}
@@ -9,7 +9,6 @@ use Rattle.stale_model.specs.declared.Refutation.{Refutation}
 use Rattle.stale_model.specs.declared.TwoPart.TheVariants.{Yes, No}
 use Rattle.stale_model.specs.declared.Verdict.{Verdict}
 use Rattle.stale_model.specs.declared.Verdict.TheVariants as verdict
-use Rattle.cert_text.specs.declared.CertFault.{CertFault}
 use Rattle.cert_text.specs.declared.CertFault.TheVariants as fault
 use Rattle.cert_text.specs.declared.lines.CertLine.{CertLine}
 use Rattle.cert_text.specs.declared.lines.CertLine.TheVariants as form
@@ -19,12 +18,12 @@ use Rattle.cert_text.specs.declared.parts.State.{State}
 use Rattle.cert_text.specs.declared.parts.State.TheVariants as state
 use Rattle.cert_text.specs.declared.parts.Reading.{Reading}
 use Rattle.cert_text.specs.Texts.{line_words, line_text, lines_text}
-use Rattle.cert_text.specs.Certificates.{pair_lines, verdict_lines, parts_lines, cert_lines, cert_text}
+use Rattle.cert_text.specs.Certificates.{pair_lines, verdict_lines, parts_lines, cert_text}
 use Rattle.cert_text.specs.Words.{lines_of, words_of, is_empty, keyword_of, then_next, line_of}
 use Rattle.cert_text.specs.Parts.{may_stand, judged, with_verdict, at_start, between, after_key, after_delta, after_order, after_pair, after_yes, after_no, after_stuck, advance_from, advance}
 use Rattle.cert_text.specs.Reading.{step, step_by, is_ended, read_from, read_of}
 use Rattle.cert_text.specs.Laws.{ReadHasOneText}
-use Rattle.cert_text.proofs.LineWords.{keyword_text, keyword, other_words, words_are}
+use Rattle.cert_text.proofs.LineWords.{keyword_text, keyword, words_are}
 use Rattle.cert_text.proofs.WrittenLines.{lines_text-append}
 use Rattle.cert_text.proofs.LineIs.{IsLine, keyword_is, line_is, next_is, ok_is}
 

@@ -1,5 +1,5 @@
 -- One line after the other.
-use Rattle.std.proofs.Common.{◌≡◌, ◌⊎◌, inl, inr, ◌+◌, ◌==◌, ◌&&◌, ◌++◌, ℕ, Bool, true, false, cond, List, [], ◌∷◌, length, Option, Some, None, Result, Ok, Err, refl, sym, ◌∙◌, ap, codes, append_assoc}
+use Rattle.std.proofs.Common.{◌≡◌, ◌⊎◌, inl, inr, ◌+◌, ◌==◌, ℕ, Bool, true, false, cond, List, [], ◌∷◌, Result, Ok, Err, sym, ◌∙◌, ap, codes, append_assoc}
 use Rattle.std.specs.List.{list_any, slice_split, onto_first}
 use Rattle.stale_model.specs.declared.Verdict.{Verdict}
 use Rattle.cert_text.specs.declared.CertFault.{CertFault}
@@ -7,10 +7,10 @@ use Rattle.cert_text.specs.declared.CertFault.TheVariants as fault
 use Rattle.cert_text.specs.declared.lines.CertLine.{CertLine}
 use Rattle.cert_text.specs.declared.parts.Reading.{Reading}
 use Rattle.cert_text.specs.Texts.{line_text, lines_text}
-use Rattle.cert_text.specs.Words.{lines_of, words_of, is_empty, keyword_of, then_next, line_of}
+use Rattle.cert_text.specs.Words.{lines_of, words_of, is_empty, then_next}
 use Rattle.cert_text.specs.Parts.{may_stand, advance}
-use Rattle.cert_text.specs.Reading.{step, step_by, at_end, read_from}
-use Rattle.cert_text.proofs.Joined.{not_true, plain_is, is_plain, none_empty, first_line}
+use Rattle.cert_text.specs.Reading.{step, at_end, read_from}
+use Rattle.cert_text.proofs.Joined.{not_true, plain_is, none_empty, first_line}
 use Rattle.cert_text.proofs.LineWords.{keyword_text, keyword, other_words, line_fits, keyword_plain, others_plain, words_of-line, line_lacks}
 use Rattle.cert_text.proofs.LineReads.{keyword_of-text, line_of-words}
 

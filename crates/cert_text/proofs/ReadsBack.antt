@@ -1,7 +1,7 @@
 -- What is written reads back.
-use Rattle.std.proofs.Common.{◌≡◌, ◌<◌, ◌≤◌, ◌+◌, ◌^◌, ◌==◌, ◌&&◌, ◌⊎◌, ℕ, Bool, true, false, cond, nat_le, nat_lt, List, [], ◌∷◌, ◌++◌, map, length, Option, Some, None, Ok, refl, sym, ◌∙◌, ap, arith, append_assoc, append-nil, eq-eqb, subst}
+use Rattle.std.proofs.Common.{◌≡◌, ◌<◌, ◌+◌, ◌^◌, ℕ, true, false, nat_le, nat_lt, List, [], ◌∷◌, ◌++◌, map, length, Option, Some, None, Ok, refl, sym, ◌∙◌, ap, arith, append_assoc, append-nil, eq-eqb, subst}
 use Rattle.std.specs.List.{list_all}
-use Rattle.std.proofs.lemmas.Bool.{leb-true, le-leb, lt-ltb, le-ltb}
+use Rattle.std.proofs.lemmas.Bool.{le-leb, lt-ltb, le-ltb}
 use Rattle.std.proofs.lemmas.List.{length_push}
 use Rattle.stale_model.specs.declared.Four.{Four}
 use Rattle.stale_model.specs.declared.Try.{Try}
@@ -19,7 +19,7 @@ use Rattle.cert_text.specs.declared.parts.Reading.{Reading}
 use Rattle.cert_text.specs.Numbers.{most_record, most_delta}
 use Rattle.cert_text.specs.Texts.{lines_text}
 use Rattle.cert_text.specs.Certificates.{has_chain, two_has_chains, has_chains, pair_lines, two_lines, verdict_lines, parts_lines, cert_text}
-use Rattle.cert_text.specs.Words.{lines_of, then_next}
+use Rattle.cert_text.specs.Words.{lines_of}
 use Rattle.cert_text.specs.Parts.{may_stand, judged, with_verdict, between, advance}
 use Rattle.cert_text.specs.Reading.{read_from, read_of}
 use Rattle.cert_text.specs.Laws.{records_fit, four_fits, try_fits, two_fits, fits, TextReadsBack}

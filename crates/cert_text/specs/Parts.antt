@@ -1,5 +1,5 @@
 -- Which line may follow which, and what the lines say together.
-use Rattle.std.specs.Prelude.{ℕ, ◌+◌, ◌==◌, ◌&&◌, nat_lt, true, false, Bool, if◌then◌else◌, List, [], ◌∷◌, ◌++◌, length, Option, Some, None, Result, Ok, Err}
+use Rattle.std.specs.Prelude.{ℕ, ◌+◌, ◌==◌, ◌&&◌, nat_lt, true, false, Bool, if◌then◌else◌, List, [], ◌∷◌, ◌++◌, length, Some, None, Result, Ok, Err}
 use Rattle.stale_model.specs.declared.Refutation.{Refutation}
 use Rattle.stale_model.specs.declared.TwoPart.{TwoPart}
 use Rattle.stale_model.specs.declared.TwoPart.TheVariants.{Yes, No}

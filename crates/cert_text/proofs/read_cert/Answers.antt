@@ -1,4 +1,4 @@
-use Rattle.std.proofs.Common.{◌≡◌, ◌∙◌, Ok, ap, refl, sym, inr, arith}
+use Rattle.std.proofs.Common.{◌∙◌, ap, inr, arith}
 use Rattle.std.proofs.lemmas.Result.{err_from_is_err_and}
 use Rattle.cert_text.specs.Words.{lines_of}
 use Rattle.cert_text.specs.Reading.{read_from, read_of}

@@ -1,4 +1,4 @@
-use Rattle.std.proofs.Common.{◌≡◌, ◌++◌, ◌∷◌, [], rules, sym, ◌∙◌}
+use Rattle.std.proofs.Common.{◌≡◌, ◌++◌, ◌∷◌, [], rules, sym}
 use Rattle.cert_text.proofs.NumberSteps.{number-more}
 use Rattle.cert_text.proofs.numbers.numbers_of.Goals as goal
 
