@@ -1,0 +1,13 @@
+pub mod Numerals
+pub mod NumberSteps
+pub mod Splits
+pub mod WrittenLines
+pub mod Places
+pub mod Joined
+pub mod LineWords
+pub mod LineReads
+pub mod LineIs
+pub mod ReadSteps
+pub mod ReadsBack
+pub mod OneText
+pub mod Definite
