@@ -2,3 +2,4 @@ pub mod Line
 pub mod Numbers
 pub mod Files
 pub mod Tasks
+pub mod Examples

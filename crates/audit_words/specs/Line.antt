@@ -1,6 +1,8 @@
 -- The form of the command line, as the port of `clap` sees it.
-use Rattle.std.specs.Prelude.{true, [], ◌∷◌, Some, codes}
-use Rattle.clap.specs.Words.{App, Rule, Text, new_app, new_rule}
+use Rattle.std.specs.Prelude.{◌||◌, true, Bool, List, [], ◌∷◌, Some, codes}
+use Rattle.std.specs.List.{list_all, list_any}
+use Rattle.std.specs.Str.{bytes_eq}
+use Rattle.clap.specs.Words.{App, Row, Rule, Text, new_app, new_rule}
 use Rattle.clap.specs.declared.builder.ArgAction.TheVariants.{Append}
 
 -- the mode has to be there
@@ -23,3 +25,11 @@ command_line = record (new_app (codes "audit_program")) {
     rules = mode_rule ∷ args_rule ∷ option_rule (codes "cert") ∷ option_rule (codes "workers") ∷ [];
   };
 }
+
+-- whether this is the mode, the arguments or one of these options
+abbrev pub is_among : List Text → Text → Bool
+is_among options id = bytes_eq id (codes "mode") || bytes_eq id (codes "args") || list_any (λ option. bytes_eq option id) options
+
+-- whether no options but these are given
+abbrev pub gives_only : List Text → List Row → Bool
+gives_only options rows = list_all (λ row. is_among options row.id) rows

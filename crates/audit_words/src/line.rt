@@ -2,7 +2,7 @@
 
 ghost use Rattle.std.specs.Prelude.{◌≡◌, List, IfOk, false, map, option_map};
 ghost use Rattle.clap.specs.Words.{all_of, first_of, app_of, found_of, rows_of, rule_of};
-ghost use Rattle.audit_words.specs.Line.{command_line, option_rule};
+ghost use Rattle.audit_words.specs.Line.{command_line, option_rule, is_among, gives_only};
 
 use clap::{Arg, ArgAction, ArgMatches, Command};
 use std::alloc::{AllocError, Global};
@@ -43,4 +43,27 @@ pub(crate) fn values_in<'a, 'm>(matches: &'m ArgMatches<'a>, id: &str) -> Option
         ≡ all_of id.now (rows_of (found_of matches.now)) }
 {
     matches.get_raw(id)
+}
+
+// Whether this is the mode, the arguments or one of these options.
+fn is_among<'a>(options: &[&'a str], id: &'a str) -> bool
+    ensures { result ≡ is_among (map (λ option. option.now) options.now) id.entry.now }
+{
+    match id {
+        "mode" | "args" => true,
+        _ => options.contains(&id),
+    }
+}
+
+// Whether no options but these are given.
+pub(crate) fn gives_only<'a>(matches: &ArgMatches<'a>, options: &[&'a str]) -> bool
+    ensures { result ≡ gives_only (map (λ option. option.now) options.now)
+        (rows_of (found_of matches.now)) }
+{
+    for id in matches.ids() {
+        if !is_among(options, id) {
+            return false;
+        }
+    }
+    true
 }

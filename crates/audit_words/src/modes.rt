@@ -6,7 +6,7 @@ ghost use Rattle.audit_words.specs.Tasks.{audit_of, check_of, task_in};
 
 use crate::Task;
 use crate::files::{are_two_names, is_name};
-use crate::line::{value_in, values_in};
+use crate::line::{gives_only, value_in, values_in};
 use crate::number::workers_of;
 use clap::ArgMatches;
 use stale_model::{Bytes, Memory};
@@ -42,8 +42,7 @@ fn check_of(alloc: Global, matches: &ArgMatches) -> Result<Option<Task>, Memory>
     let Some([file, cert]) = values_in(matches, "args") else {
         return Ok(None);
     };
-    let takes_none = value_in(matches, "cert").is_none() && value_in(matches, "workers").is_none();
-    if !takes_none || !are_two_names(file, cert) {
+    if !are_two_names(file, cert) {
         return Ok(None);
     }
     let file = Bytes::of(alloc, file.as_bytes())?;
@@ -56,8 +55,8 @@ pub(crate) fn task_in(alloc: Global, matches: &ArgMatches) -> Result<Option<Task
     ensures { IfOk result (λ task. task ≡ task_in (rows_of (found_of matches.now))) }
 {
     match value_in(matches, "mode") {
-        Some("audit") => audit_of(alloc, matches),
-        Some("check") => check_of(alloc, matches),
+        Some("audit") if gives_only(matches, &["cert", "workers"]) => audit_of(alloc, matches),
+        Some("check") if gives_only(matches, &[]) => check_of(alloc, matches),
         _ => Ok(None),
     }
 }
