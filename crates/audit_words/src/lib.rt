@@ -29,7 +29,10 @@ pub enum Task {
         workers: u32,
     },
     /// `check FILE CERT`: check the certificate in CERT against the history in FILE.
-    Check { file: Bytes, cert: Bytes },
+    Check {
+        file: Bytes,
+        cert: Bytes,
+    },
 }
 
 /// What the words of a command line, after the name of the program, ask for; nothing where they are wrong.
@@ -53,3 +56,5 @@ pub fn task_of(alloc: Global, words: &[Word]) -> Result<Option<Task>, Memory>
     }
 }
 
+#[cfg(test)]
+mod tests;
