@@ -1,5 +1,5 @@
 -- The ids that are left, one after the other.
-use Rattle.std.proofs.Common.{◌≡◌, Bool, true, false, List, [], ◌∷◌, Some, None, refl, rules, arith, drop}
+use Rattle.std.proofs.Common.{◌≡◌, Bool, true, false, List, [], ◌∷◌, Some, None, refl, arith, drop}
 use Rattle.std.specs.List.{list_all, slice_get}
 
 -- where the next one fails, not all pass

@@ -1,6 +1,6 @@
 //! The form of the command line, for `clap`, and what its matches hold.
 
-ghost use Rattle.std.specs.Prelude.{◌≡◌, List, IfOk, false, map, option_map};
+ghost use Rattle.std.specs.Prelude.{◌≡◌, IfOk, false, map, option_map};
 ghost use Rattle.clap.specs.Words.{all_of, first_of, app_of, found_of, rows_of, rule_of};
 ghost use Rattle.audit_words.specs.Line.{command_line, option_rule, is_among, gives_only};
 

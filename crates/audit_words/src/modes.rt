@@ -1,6 +1,6 @@
 //! The modes, and what each asks for.
 
-ghost use Rattle.std.specs.Prelude.{◌≡◌, ℕ, List, IfOk, map, option_map};
+ghost use Rattle.std.specs.Prelude.{◌≡◌, IfOk};
 ghost use Rattle.clap.specs.Words.{found_of, rows_of};
 ghost use Rattle.audit_words.specs.Tasks.{audit_of, check_of, task_in};
 
