@@ -53,7 +53,8 @@ pub fn wrong_files()
     ensures audit_empty { task_of (codes "audit" ∷ [] ∷ []) ≡ None }
     ensures check_empty { task_of (codes "check" ∷ codes "h" ∷ [] ∷ []) ≡ None }
     ensures cert_empty { asked_by (codes "audit h --cert=") ≡ None }
-    ensures cert_empty_word { task_of (codes "audit" ∷ codes "h" ∷ codes "--cert" ∷ [] ∷ []) ≡ None }
+    ensures cert_empty_word { task_of (codes "audit" ∷ codes "h" ∷ codes "--cert" ∷ [] ∷ [])
+        ≡ None }
     ensures audit_same { asked_by (codes "audit h --cert h") ≡ None }
     ensures check_same { asked_by (codes "check h h") ≡ None }
 {}
