@@ -1,0 +1,5 @@
+pub mod Line
+pub mod Numbers
+pub mod Files
+pub mod Tasks
+pub mod Examples

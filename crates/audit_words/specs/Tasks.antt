@@ -1,0 +1,46 @@
+-- What the words of a command line ask for.
+use Rattle.std.specs.Prelude.{ℕ, ◌&&◌, if◌then◌else◌, List, [], ◌∷◌, Option, Some, None, codes}
+use Rattle.std.specs.Str.{bytes_eq}
+use Rattle.clap.specs.Words.{Row, Text, all_of, first_of, fault_of, matches_of}
+use Rattle.clap.specs.Walk.{is_empty}
+use Rattle.audit_words.specs.declared.Task.{Task}
+use Rattle.audit_words.specs.declared.Task.TheVariants.{Audit, Check}
+use Rattle.audit_words.specs.Line.{command_line, gives_only}
+use Rattle.audit_words.specs.Numbers.{workers_of}
+use Rattle.audit_words.specs.Files.{is_name, are_two_names}
+
+-- one file, beside it the certificate's where it is given, and a number of workers
+abbrev pub audit_with : Option (List Text) → Option Text → Option ℕ → Option Task
+audit_with (Some (file ∷ [])) None (Some workers) = if is_name file then Some (Audit file None workers) else None
+audit_with (Some (file ∷ [])) (Some cert) (Some workers) =
+    if are_two_names file cert then Some (Audit file (Some cert) workers) else None
+audit_with _ _ _ = None
+
+-- `audit FILE [--cert OUT] [--workers N]`
+abbrev pub audit_of : List Row → Option Task
+audit_of rows = audit_with (all_of (codes "args") rows) (first_of (codes "cert") rows) (workers_of (first_of (codes "workers") rows))
+
+-- two files
+abbrev pub check_with : Option (List Text) → Option Task
+check_with (Some (file ∷ cert ∷ [])) = if are_two_names file cert then Some (Check file cert) else None
+check_with _ = None
+
+-- `check FILE CERT`
+abbrev pub check_of : List Row → Option Task
+check_of rows = check_with (all_of (codes "args") rows)
+
+-- by the mode, which says the options that may be given
+abbrev pub task_by : Option Text → List Row → Option Task
+task_by None rows = None
+task_by (Some mode) rows =
+    if bytes_eq mode (codes "audit") && gives_only (codes "cert" ∷ codes "workers" ∷ []) rows then audit_of rows
+    else if bytes_eq mode (codes "check") && gives_only [] rows then check_of rows
+    else None
+
+-- what the entries of a command line ask for
+abbrev pub task_in : List Row → Option Task
+task_in rows = task_by (first_of (codes "mode") rows) rows
+
+-- what the words ask for; nothing where the command line does not take them, or takes them in vain
+abbrev pub task_of : List Text → Option Task
+task_of words = if is_empty (fault_of command_line words) then task_in (matches_of command_line words) else None

@@ -1,0 +1,133 @@
+//! Command lines worked by hand, as theorems: what the words ask for. The words of a line stand between blanks.
+
+ghost use Rattle.std.specs.Prelude.{◌≡◌, ◌∷◌, [], Some, None, codes};
+ghost use Rattle.audit_words.specs.declared.Task.TheVariants.{Audit, Check};
+ghost use Rattle.audit_words.specs.Tasks.{task_of};
+ghost use Rattle.audit_words.specs.Examples.{asked_by};
+
+/// A file, and nothing else.
+pub fn modes_alone()
+    ensures audit { asked_by (codes "audit h") ≡ Some (Audit (codes "h") None 1) }
+    ensures check { asked_by (codes "check h c") ≡ Some (Check (codes "h") (codes "c")) }
+    ensures long_name { asked_by (codes "audit examples/session-store.csv")
+        ≡ Some (Audit (codes "examples/session-store.csv") None 1) }
+{}
+
+/// Options stand before the mode, between the words and after them.
+pub fn options_anywhere()
+    ensures after { asked_by (codes "audit h --cert c --workers 8")
+        ≡ Some (Audit (codes "h") (Some (codes "c")) 8) }
+    ensures between { asked_by (codes "audit --workers 8 h --cert c")
+        ≡ Some (Audit (codes "h") (Some (codes "c")) 8) }
+    ensures before { asked_by (codes "--cert c --workers=8 audit h")
+        ≡ Some (Audit (codes "h") (Some (codes "c")) 8) }
+{}
+
+/// A mode has to be there, and be one of the two.
+pub fn wrong_modes()
+    ensures no_word { task_of [] ≡ None }
+    ensures empty { task_of ([] ∷ codes "h" ∷ []) ≡ None }
+    ensures other { asked_by (codes "judge h") ≡ None }
+    ensures longer { asked_by (codes "audits h") ≡ None }
+    ensures capital { asked_by (codes "Audit h") ≡ None }
+    ensures file_first { asked_by (codes "h audit") ≡ None }
+{}
+
+/// Modes that are not there.
+pub fn later_modes()
+    ensures generate { asked_by (codes "gen 1 0 1") ≡ None }
+    ensures trial { asked_by (codes "trial 7 2000 1 --cert c") ≡ None }
+    ensures bench { asked_by (codes "bench h h") ≡ None }
+{}
+
+/// `audit` has one file, and `check` has two.
+pub fn wrong_counts_of_files()
+    ensures audit_none { asked_by (codes "audit") ≡ None }
+    ensures audit_two { asked_by (codes "audit h g") ≡ None }
+    ensures check_one { asked_by (codes "check h") ≡ None }
+    ensures check_three { asked_by (codes "check h c d") ≡ None }
+{}
+
+/// No file's name is empty, and no two are the same.
+pub fn wrong_files()
+    ensures audit_empty { task_of (codes "audit" ∷ [] ∷ []) ≡ None }
+    ensures check_empty { task_of (codes "check" ∷ codes "h" ∷ [] ∷ []) ≡ None }
+    ensures cert_empty { asked_by (codes "audit h --cert=") ≡ None }
+    ensures cert_empty_word { task_of (codes "audit" ∷ codes "h" ∷ codes "--cert" ∷ [] ∷ [])
+        ≡ None }
+    ensures audit_same { asked_by (codes "audit h --cert h") ≡ None }
+    ensures check_same { asked_by (codes "check h h") ≡ None }
+{}
+
+/// Names as they stand: a path by another way, a blank, a minus sign alone, bytes that are no ASCII.
+pub fn names_of_files()
+    ensures same_by_another_path { asked_by (codes "check h ./h")
+        ≡ Some (Check (codes "h") (codes "./h")) }
+    ensures blank { task_of (codes "audit" ∷ codes "h 1" ∷ [])
+        ≡ Some (Audit (codes "h 1") None 1) }
+    ensures minus_sign { asked_by (codes "audit -") ≡ Some (Audit (codes "-") None 1) }
+    ensures no_ascii { task_of (codes "audit" ∷ (195 ∷ 169 ∷ []) ∷ [])
+        ≡ Some (Audit (195 ∷ 169 ∷ []) None 1) }
+    ensures mode_as_name { asked_by (codes "audit audit") ≡ Some (Audit (codes "audit") None 1) }
+{}
+
+/// A number of workers has 1 to 20 digits and is 1 to 64.
+pub fn numbers_of_workers()
+    ensures zeros { asked_by (codes "audit h --workers 007") ≡ Some (Audit (codes "h") None 7) }
+    ensures most { asked_by (codes "audit h --workers 64") ≡ Some (Audit (codes "h") None 64) }
+    ensures most_digits { asked_by (codes "audit h --workers 00000000000000000064")
+        ≡ Some (Audit (codes "h") None 64) }
+{}
+
+/// And no other texts are numbers of workers.
+pub fn wrong_numbers_of_workers()
+    ensures zero { asked_by (codes "audit h --workers 0") ≡ None }
+    ensures above { asked_by (codes "audit h --workers 65") ≡ None }
+    ensures too_many_digits { asked_by (codes "audit h --workers 000000000000000000001") ≡ None }
+    ensures greatest { asked_by (codes "audit h --workers 99999999999999999999") ≡ None }
+    ensures signed { asked_by (codes "audit h --workers +2") ≡ None }
+    ensures below { asked_by (codes "audit h --workers=-1") ≡ None }
+    ensures letter { asked_by (codes "audit h --workers 2x") ≡ None }
+    ensures empty { asked_by (codes "audit h --workers=") ≡ None }
+{}
+
+/// Options that are wrong: twice, not those of the mode, unknown, shortened, without a value.
+pub fn wrong_options()
+    ensures cert_twice { asked_by (codes "audit h --cert c --cert d") ≡ None }
+    ensures workers_twice { asked_by (codes "audit h --workers 2 --workers 2") ≡ None }
+    ensures check_workers { asked_by (codes "check h c --workers 2") ≡ None }
+    ensures check_cert { asked_by (codes "check h c --cert d") ≡ None }
+    ensures unknown { asked_by (codes "audit h --seed 1") ≡ None }
+    ensures shortened { asked_by (codes "audit h --work 2") ≡ None }
+    ensures one_letter { asked_by (codes "audit h -c c") ≡ None }
+    ensures no_value { asked_by (codes "audit h --cert") ≡ None }
+    ensures option_as_value { asked_by (codes "audit h --cert --workers 2") ≡ None }
+{}
+
+/// Asking for help is wrong, wherever it stands.
+pub fn help()
+    ensures long { asked_by (codes "--help") ≡ None }
+    ensures short { asked_by (codes "audit h -h") ≡ None }
+    ensures after_file { asked_by (codes "audit h --help") ≡ None }
+    ensures mode { asked_by (codes "help") ≡ None }
+{}
+
+/// A value after a blank does not begin with a minus sign; one after `=` may, and may hold `=`.
+pub fn values_of_options()
+    ensures minus_after_blank { asked_by (codes "audit h --cert -c") ≡ None }
+    ensures minus_after_equals { asked_by (codes "audit h --cert=-c")
+        ≡ Some (Audit (codes "h") (Some (codes "-c")) 1) }
+    ensures equals { asked_by (codes "audit h --cert=a=b")
+        ≡ Some (Audit (codes "h") (Some (codes "a=b")) 1) }
+    ensures minus_alone { asked_by (codes "audit h --cert -")
+        ≡ Some (Audit (codes "h") (Some (codes "-")) 1) }
+{}
+
+/// After `--` each word is one of the mode's.
+pub fn after_the_options()
+    ensures as_file { asked_by (codes "audit -- --cert")
+        ≡ Some (Audit (codes "--cert") None 1) }
+    ensures between { asked_by (codes "check h -- c") ≡ Some (Check (codes "h") (codes "c")) }
+    ensures twice { asked_by (codes "audit -- --") ≡ Some (Audit (codes "--") None 1) }
+    ensures no_option { asked_by (codes "audit h -- --workers 2") ≡ None }
+{}

@@ -1,0 +1,60 @@
+//! The words of a command line, and what they ask for.
+#![tactic(auto)]
+
+ghost use Rattle.std.specs.Prelude.{◌≡◌, IfOk};
+ghost use Rattle.audit_words.specs.Tasks.{task_of};
+
+pub mod examples;
+mod files;
+mod line;
+mod modes;
+mod number;
+mod word;
+
+use crate::line::command_line;
+use crate::modes::task_in;
+use clap::error::ErrorKind;
+use stale_model::{Bytes, Memory};
+use std::alloc::Global;
+pub use word::Word;
+
+/// A command with its files and settings. A file's name is not empty, and no two of a command are the same.
+#[derive(Drop, Debug)]
+pub enum Task {
+    /// `audit FILE [--cert OUT] [--workers N]`: judge the history in FILE, and write the certificate to OUT.
+    Audit {
+        file: Bytes,
+        cert: Option<Bytes>,
+        /// How many workers judge: 1 to 64, and 1 where the words do not say.
+        workers: u32,
+    },
+    /// `check FILE CERT`: check the certificate in CERT against the history in FILE.
+    Check {
+        file: Bytes,
+        cert: Bytes,
+    },
+}
+
+/// What the words of a command line, after the name of the program, ask for; nothing where they are wrong.
+///
+/// Options may stand anywhere, as `--workers 2` or `--workers=2`; the word `--` ends them. An option that comes twice,
+/// that is unknown or shortened, that the mode does not take, or whose value begins with `-` after a blank is wrong.
+/// A number of workers has 1 to 20 digits.
+///
+/// # Errors
+/// `Memory` may come at any time. It is never taken for wrong words.
+pub fn task_of(alloc: Global, words: &[Word]) -> Result<Option<Task>, Memory>
+    ensures { IfOk result (λ task. task ≡ task_of words.now) }
+{
+    let Ok(command) = command_line(alloc) else {
+        return Err(Memory);
+    };
+    match command.try_get_matches_from(words) {
+        Ok(matches) => task_in(alloc, &matches),
+        Err(error) if error.kind() == ErrorKind::OutOfMemory => Err(Memory),
+        Err(_) => Ok(None),
+    }
+}
+
+#[cfg(test)]
+mod tests;

@@ -1,0 +1,69 @@
+//! The form of the command line, for `clap`, and what its matches hold.
+
+ghost use Rattle.std.specs.Prelude.{◌≡◌, IfOk, false, map, option_map};
+ghost use Rattle.clap.specs.Words.{all_of, first_of, app_of, found_of, rows_of, rule_of};
+ghost use Rattle.audit_words.specs.Line.{command_line, option_rule, is_among, gives_only};
+
+use clap::{Arg, ArgAction, ArgMatches, Command};
+use std::alloc::{AllocError, Global};
+
+// An option with a value.
+fn option<'a>(alloc: Global, name: &'a str) -> Arg<'a>
+    ensures rule { rule_of result ≡ option_rule name.entry.now }
+    ensures local { result.global ≡ false }
+{
+    Arg::new(alloc, name).long(name)
+}
+
+// The command line: a mode, its arguments, and the options.
+pub(crate) fn command_line<'a>(alloc: Global) -> Result<Command<'a>, AllocError>
+    ensures { IfOk result (λ command. app_of command ≡ command_line) }
+{
+    let mode = Arg::new(alloc, "mode").required(true);
+    let args = Arg::new(alloc, "args").action(ArgAction::Append);
+    let command = Command::new(alloc, "audit_program").no_binary_name(true);
+    let command = command.arg(mode)?;
+    let command = command.arg(args)?;
+    let command = command.arg(option(alloc, "cert"))?;
+    let command = command.arg(option(alloc, "workers"))?;
+    Ok(command)
+}
+
+// The value of an argument.
+pub(crate) fn value_in<'a>(matches: &ArgMatches<'a>, id: &str) -> Option<&'a str>
+    ensures { option_map (λ text. text.now) result
+        ≡ first_of id.now (rows_of (found_of matches.now)) }
+{
+    matches.get_str(id)
+}
+
+// The values of an argument, of all its uses.
+pub(crate) fn values_in<'a, 'm>(matches: &'m ArgMatches<'a>, id: &str) -> Option<&'m [&'a str]>
+    ensures { option_map (λ texts. map (λ text. text.now) texts.now) result
+        ≡ all_of id.now (rows_of (found_of matches.now)) }
+{
+    matches.get_raw(id)
+}
+
+// Whether this is the mode, the arguments or one of these options.
+fn is_among<'a>(options: &[&'a str], id: &'a str) -> bool
+    ensures { result ≡ is_among (map (λ option. option.now) options.now) id.entry.now }
+{
+    match id {
+        "mode" | "args" => true,
+        _ => options.contains(&id),
+    }
+}
+
+// Whether no options but these are given.
+pub(crate) fn gives_only<'a>(matches: &ArgMatches<'a>, options: &[&'a str]) -> bool
+    ensures { result ≡ gives_only (map (λ option. option.now) options.now)
+        (rows_of (found_of matches.now)) }
+{
+    for id in matches.ids() {
+        if !is_among(options, id) {
+            return false;
+        }
+    }
+    true
+}

@@ -1,0 +1,62 @@
+//! The modes, and what each asks for.
+
+ghost use Rattle.std.specs.Prelude.{◌≡◌, IfOk};
+ghost use Rattle.clap.specs.Words.{found_of, rows_of};
+ghost use Rattle.audit_words.specs.Tasks.{audit_of, check_of, task_in};
+
+use crate::Task;
+use crate::files::{are_two_names, is_name};
+use crate::line::{gives_only, value_in, values_in};
+use crate::number::workers_of;
+use clap::ArgMatches;
+use stale_model::{Bytes, Memory};
+use std::alloc::Global;
+
+// `audit FILE [--cert OUT] [--workers N]`
+fn audit_of(alloc: Global, matches: &ArgMatches) -> Result<Option<Task>, Memory>
+    ensures { IfOk result (λ task. task ≡ audit_of (rows_of (found_of matches.now))) }
+{
+    let Some([file]) = values_in(matches, "args") else {
+        return Ok(None);
+    };
+    let Some(workers) = workers_of(value_in(matches, "workers")) else {
+        return Ok(None);
+    };
+    let cert = match value_in(matches, "cert") {
+        None if is_name(file) => None,
+        Some(cert) if are_two_names(file, cert) => Some(Bytes::of(alloc, cert.as_bytes())?),
+        _ => return Ok(None),
+    };
+    let file = Bytes::of(alloc, file.as_bytes())?;
+    Ok(Some(Task::Audit {
+        file,
+        cert,
+        workers,
+    }))
+}
+
+// `check FILE CERT`
+fn check_of(alloc: Global, matches: &ArgMatches) -> Result<Option<Task>, Memory>
+    ensures { IfOk result (λ task. task ≡ check_of (rows_of (found_of matches.now))) }
+{
+    let Some([file, cert]) = values_in(matches, "args") else {
+        return Ok(None);
+    };
+    if !are_two_names(file, cert) {
+        return Ok(None);
+    }
+    let file = Bytes::of(alloc, file.as_bytes())?;
+    let cert = Bytes::of(alloc, cert.as_bytes())?;
+    Ok(Some(Task::Check { file, cert }))
+}
+
+// What the matches ask for, by the mode.
+pub(crate) fn task_in(alloc: Global, matches: &ArgMatches) -> Result<Option<Task>, Memory>
+    ensures { IfOk result (λ task. task ≡ task_in (rows_of (found_of matches.now))) }
+{
+    match value_in(matches, "mode") {
+        Some("audit") if gives_only(matches, &["cert", "workers"]) => audit_of(alloc, matches),
+        Some("check") if gives_only(matches, &[]) => check_of(alloc, matches),
+        _ => Ok(None),
+    }
+}

@@ -1,0 +1,39 @@
+//! That a task comes where memory is ample, which no contract says.
+use super::*;
+use std::test::Fail;
+
+// The words between the blanks of a line.
+fn words_of(alloc: Global, line: &str) -> Result<Vec<Word>, Fail> {
+    let mut words = Vec::new(alloc);
+    for word in line.split(' ') {
+        words.push(Word::of(alloc, word)?)?;
+    }
+    Ok(words)
+}
+
+#[test]
+fn gives_tasks(rt: HostRuntime) -> Result<(), Fail> {
+    let words = words_of(rt.alloc(), "--workers 007 audit h --cert=-c")?;
+    let Some(
+        Task::Audit {
+            file,
+            cert: Some(cert),
+            workers,
+        },
+    ) = task_of(rt.alloc(), &words)?
+    else {
+        return Err(Fail::new("no such task"));
+    };
+    assert_eq!(rt; file.as_slice(), b"h".as_slice());
+    assert_eq!(rt; cert.as_slice(), b"-c".as_slice());
+    assert_eq!(rt; workers, 7);
+    let words = words_of(rt.alloc(), "check h -- c")?;
+    let Some(Task::Check { file, cert }) = task_of(rt.alloc(), &words)? else {
+        return Err(Fail::new("no such task"));
+    };
+    assert_eq!(rt; file.as_slice(), b"h".as_slice());
+    assert_eq!(rt; cert.as_slice(), b"c".as_slice());
+    let words = words_of(rt.alloc(), "audit h --workers 0")?;
+    assert!(rt; task_of(rt.alloc(), &words)?.is_none());
+    Ok(())
+}
