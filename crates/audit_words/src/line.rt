@@ -15,7 +15,7 @@ fn option<'a>(alloc: Global, name: &'a str) -> Arg<'a>
     Arg::new(alloc, name).long(name)
 }
 
-// The command line: a mode, its arguments, and the options.
+/// The command line: a mode, its arguments, and the options.
 pub(crate) fn command_line<'a>(alloc: Global) -> Result<Command<'a>, AllocError>
     ensures { IfOk result (λ command. app_of command ≡ command_line) }
 {
@@ -29,7 +29,7 @@ pub(crate) fn command_line<'a>(alloc: Global) -> Result<Command<'a>, AllocError>
     Ok(command)
 }
 
-// The value of an argument.
+/// The value of an argument.
 pub(crate) fn value_in<'a>(matches: &ArgMatches<'a>, id: &str) -> Option<&'a str>
     ensures { option_map (λ text. text.now) result
         ≡ first_of id.now (rows_of (found_of matches.now)) }
@@ -37,7 +37,7 @@ pub(crate) fn value_in<'a>(matches: &ArgMatches<'a>, id: &str) -> Option<&'a str
     matches.get_str(id)
 }
 
-// The values of an argument, of all its uses.
+/// The values of an argument, of all its uses.
 pub(crate) fn values_in<'a, 'm>(matches: &'m ArgMatches<'a>, id: &str) -> Option<&'m [&'a str]>
     ensures { option_map (λ texts. map (λ text. text.now) texts.now) result
         ≡ all_of id.now (rows_of (found_of matches.now)) }
@@ -55,7 +55,7 @@ fn is_among<'a>(options: &[&'a str], id: &'a str) -> bool
     }
 }
 
-// Whether no options but these are given.
+/// Whether no options but these are given.
 pub(crate) fn gives_only<'a>(matches: &ArgMatches<'a>, options: &[&'a str]) -> bool
     ensures { result ≡ gives_only (map (λ option. option.now) options.now)
         (rows_of (found_of matches.now)) }

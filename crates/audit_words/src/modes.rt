@@ -50,7 +50,7 @@ fn check_of(alloc: Global, matches: &ArgMatches) -> Result<Option<Task>, Memory>
     Ok(Some(Task::Check { file, cert }))
 }
 
-// What the matches ask for, by the mode.
+/// What the matches ask for, by the mode.
 pub(crate) fn task_in(alloc: Global, matches: &ArgMatches) -> Result<Option<Task>, Memory>
     ensures { IfOk result (λ task. task ≡ task_in (rows_of (found_of matches.now))) }
 {

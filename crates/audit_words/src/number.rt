@@ -26,7 +26,7 @@ fn number_of(text: &[u8]) -> Option<u128>
     Some(number)
 }
 
-// The number of workers that a text says; 1 where there is no text.
+/// The number of workers that a text says; 1 where there is no text.
 pub(crate) fn workers_of(text: Option<&str>) -> Option<u32>
     ensures { result ≡ workers_of (option_map (λ text. text.now) text.entry) }
 {
