@@ -12,13 +12,16 @@ use Rattle.std.proofs.lemmas.Option.{slice_get-get_or}
 use Rattle.audit_ports.proofs.Finding.{file_at-place}
 use Rattle.audit_ports.specs.declared.memory.Opened.{Opened}
 
+-- a map ties a name with itself
 same_name : (name : List ℕ) → eq_by_cmp (slice_cmp nat_cmp) name name ≡ true
 same_name name = is_eq-slice_cmp name name ∙ (bytes_eq-Decides name name).1 refl
 
+-- what can't be true is false
 not_same : (b : Bool) → (b ≡ true → ⊥) → b ≡ false
 not_same true h = absurd (h refl)
 not_same false h = refl
 
+-- and no two names that differ
 other_name : (other name : List ℕ) → other ≢ name → eq_by_cmp (slice_cmp nat_cmp) other name ≡ false
 other_name other name apart = is_eq-slice_cmp other name ∙ not_same _ (λ e. apart ((bytes_eq-Decides other name).0 e))
 
@@ -31,11 +34,11 @@ first_isnt : (name bytes other : List ℕ) (files : List (List ℕ × List ℕ))
 first_isnt name bytes other files apart =
     get-insert nat_list_cmp_total (files_of files) name bytes other ∙ ap (λ b. cond b (Some bytes) (file_at (files_of files) other)) (other_name other name apart)
 
--- an empty file in front is set
+-- an empty file in front stands for all others of its name
 pub created : (name : List ℕ) (files : List (List ℕ × List ℕ)) → Sets name [] (files_of files) (files_of ((name, []) ∷ files))
 created name files = record { there = first_is name [] files; others = λ other apart. first_isnt name [] other files apart }
 
--- a piece behind the first file's bytes extends it
+-- a piece appended to the first file extends it
 pub extended : (files : List (List ℕ × List ℕ)) (piece : List ℕ) → 0 < length files → Extends (name_at files 0) piece (files_of files) (files_of (with_first_longer files piece))
 extended [] piece some = absurd (omega arith)
 extended (file ∷ files) piece some = record {
@@ -59,6 +62,7 @@ first_found files i within at =
     file_at-place files (name_at files i) ∙ ap (λ n. option_map (λ (f : List ℕ × List ℕ). f.1) (slice_get files n)) at
     ∙ ap (option_map (λ (f : List ℕ × List ℕ). f.1)) (slice_get-get_or files i ([], []) within)
 
+-- a first file that gets longer leaves all places as they were
 module _ (file : List ℕ × List ℕ) (files : List (List ℕ × List ℕ)) (piece : List ℕ) where
   longer : List (List ℕ × List ℕ)
   longer = with_first_longer (file ∷ files) piece
@@ -96,7 +100,7 @@ unfolding longer
 still_opened [] piece opened is = is
 still_opened (file ∷ files) piece opened is = longer_opened file files piece opened is
 
--- nothing behind the first file's bytes leaves all as it is
+-- nothing appended to the first file leaves all as it is
 pub unchanged : (files : List (List ℕ × List ℕ)) → 0 < length files → Extends (name_at files 0) [] (files_of files) (files_of files)
 unchanged [] some = absurd (omega arith)
 unchanged (file ∷ files) some = record {
@@ -114,7 +118,7 @@ is_written true files some = refl
 is_written false files some = search rules
 
 module _ (b : Bool) (files new : List (List ℕ × List ℕ)) (piece : List ℕ) (some : 0 < length files) where
-  -- no byte of a piece was put behind the file that is being written
+  -- no byte of a piece was appended to the file that is being written
   pub part_written : new ≡ files → IfSome (writing_of b files) (λ name. ExtendsByPrefix name piece (Some (files_of files)) (Some (files_of new)))
   part_written is = elim b as (λ x. IfSome (writing_of x files) (λ name. ExtendsByPrefix name piece (Some (files_of files)) (Some (files_of new)))) [
     | true ↦ (0, subst (λ fs. Extends (name_at files 0) [] (files_of files) (files_of fs)) (sym is) (unchanged files some))
