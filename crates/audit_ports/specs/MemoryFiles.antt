@@ -1,6 +1,7 @@
 -- Files in memory: a list of names with their bytes.
-use Rattle.std.specs.Prelude.{◌≡◌, ◌≢◌, ℕ, ◌<◌, ◌≤◌, List, [], length, AllPairs, Some, IsSome, slice_index_or, Bool, bytes_eq}
+use Rattle.std.specs.Prelude.{◌≡◌, ◌≢◌, ℕ, ◌<◌, ◌≤◌, List, [], ◌∷◌, ◌++◌, length, AllPairs, Option, Some, None, IsSome, slice_index_or, Bool, if◌then◌else◌, bytes_eq}
 use Rattle.std.specs.FinMap.{from_entries}
+use Rattle.std.specs.List.{position_or_len}
 use Rattle.audit_ports.specs.declared.memory.Opened.{Opened}
 use Rattle.audit_ports.specs.Shelf.{Files, Reading, at_start, file_at}
 
@@ -24,6 +25,15 @@ bytes_at files i = (slice_index_or files i ([], [])).1
 abbrev pub reading_of : List (List ℕ × List ℕ) → Opened → Reading
 reading_of files opened = record { name = name_at files opened.index; place = opened.place }
 
+-- the name of the file that is being written, which is the first of the list
+abbrev pub writing_of : Bool → List (List ℕ × List ℕ) → Option (List ℕ)
+writing_of is_writing files = if is_writing then Some (name_at files 0) else None
+
+-- the files, where a piece was appended to the first
+abbrev pub with_first_longer : List (List ℕ × List ℕ) → List ℕ → List (List ℕ × List ℕ)
+with_first_longer [] piece = []
+with_first_longer (file ∷ files) piece = (file.0, file.1 ++ piece) ∷ files
+
 -- the file has this name
 abbrev pub has_name : List ℕ → List ℕ × List ℕ → Bool
 has_name name file = bytes_eq file.0 name
@@ -33,6 +43,7 @@ pub record IsOpened (files : List (List ℕ × List ℕ)) (opened : Opened) : Ty
   pub within : opened.index < length files
   pub place : opened.place ≤ length (bytes_at files opened.index)
   pub first : file_at (files_of files) (name_at files opened.index) ≡ Some (bytes_at files opened.index)
+  pub earliest : position_or_len (has_name (name_at files opened.index)) files ≡ opened.index
 
 -- the file of this name is open at its first byte
 pub record OpensFile (files : List (List ℕ × List ℕ)) (name : List ℕ) (opened : Opened) : Type 0 where

@@ -6,11 +6,12 @@ use Rattle.audit_ports.specs.declared.memory.MemoryShelf.{MemoryShelf}
 use Rattle.audit_ports.specs.declared.memory.MemorySink.{MemorySink}
 use Rattle.audit_ports.specs.Shelf.{Files, Shown}
 use Rattle.audit_ports.specs.Sink.{SinkShown}
-use Rattle.audit_ports.specs.MemoryFiles.{files_of, bytes_at, reading_of}
+use Rattle.audit_ports.specs.Listed.{listed}
+use Rattle.audit_ports.specs.MemoryFiles.{files_of, bytes_at, reading_of, writing_of}
 
 -- the files of a shelf, by name
 abbrev pub shelf_files : MemoryShelf → Files
-shelf_files shelf = files_of shelf.files
+shelf_files shelf = files_of (listed shelf.files)
 
 -- the calls that a shelf has counted, and those of its calls that fail
 abbrev pub shelf_calls : MemoryShelf → Calls
@@ -18,11 +19,11 @@ shelf_calls shelf = shelf.calls
 
 -- what is known of a shelf in memory: all of it
 abbrev pub memory_shown : MemoryShelf → Shown
-memory_shown shelf = record { read_faults = shelf.read_faults; write_faults = 0; misses = shelf.misses; files = Some (shelf_files shelf); reading = option_map (reading_of shelf.files) shelf.opened }
+memory_shown shelf = record { read_faults = shelf.read_faults; write_faults = shelf.write_faults; misses = shelf.misses; files = Some (shelf_files shelf); reading = option_map (reading_of (listed shelf.files)) shelf.opened; writing = writing_of shelf.is_writing (listed shelf.files) }
 
 -- how many bytes of the open file were not read yet
 abbrev pub bytes_left : MemoryShelf → ℕ
-bytes_left shelf = option_map_or (λ opened. length (bytes_at shelf.files opened.index) - opened.place) shelf.opened 0
+bytes_left shelf = option_map_or (λ opened. length (bytes_at (listed shelf.files) opened.index) - opened.place) shelf.opened 0
 
 -- the calls that a sink has counted, and those of its calls that fail
 abbrev pub sink_calls : MemorySink → Calls

@@ -1,5 +1,6 @@
--- What is known of a place with files: its counts, its files where it tells them, and the file that is open for reading.
-use Rattle.std.specs.Prelude.{◌≡◌, ◌⊎◌, ℕ, ◌+◌, ◌-◌, ◌^◌, ◌<◌, ◌≤◌, ◌↔◌, min, List, take, drop, length, Option, Some, None, IsSome, IfSome, Result, OnOk, IfOk, IsErrOf, OnErr}
+-- What is known of a place with files: its counts, its files where it tells them, the file that is open for reading, and the one that
+-- is being written.
+use Rattle.std.specs.Prelude.{◌≡◌, ◌≢◌, ◌⊎◌, ℕ, ◌+◌, ◌-◌, ◌^◌, ◌<◌, ◌≤◌, ◌↔◌, min, List, [], ◌++◌, take, drop, length, Option, Some, None, IsSome, IfSome, ⊤, Result, OnOk, IfOk, IsErrOf, OnErr}
 use Rattle.std.specs.FinMap.{FinMap, get}
 use Rattle.std.specs.Cmp.Lexicographic.{slice_cmp}
 use Rattle.std.specs.Ordering.{nat_cmp}
@@ -23,17 +24,19 @@ pub record Reading : Type 0 where
 abbrev pub at_start : List ℕ → Reading
 at_start name = record { name = name; place = 0 }
 
--- what is known of a shelf: its faults of reading and of writing, its misses, its files where it tells them, and what is open
+-- what is known of a shelf: its faults of reading and of writing, its misses, its files where it tells them, what is open for reading,
+-- and the name of the file that is being written
 pub record Shown : Type 0 where
   pub read_faults : ℕ
   pub write_faults : ℕ
   pub misses : ℕ
   pub files : Option Files
   pub reading : Option Reading
+  pub writing : Option (List ℕ)
 
--- what is known of a shelf with these files at first: no count has risen, and nothing is open
+-- what is known of a shelf with these files at first: no count has risen, and nothing is open or being written
 abbrev pub fresh : Option Files → Shown
-fresh files = record { read_faults = 0; write_faults = 0; misses = 0; files = files; reading = None }
+fresh files = record { read_faults = 0; write_faults = 0; misses = 0; files = files; reading = None; writing = None }
 
 -- the count is greater than before, or stands at its type's end
 abbrev pub Rose : ℕ → ℕ → Type 0
@@ -80,6 +83,7 @@ pub record TakesBytes (into : List ℕ) (old new : Shown) (n : ℕ) (reading : R
 -- opening the file of this name, with this result
 pub record Opens {T : Type 0} (name : List ℕ) (old : Shown) (result : Result T OpenFault) (new : Shown) : Type 0 where
   pub keeps : KeepsFiles old new
+  pub writing : new.writing ≡ old.writing
   pub ok : OnOk result (IsOpenAtStart name new)
   pub counts : OnOk result (KeepsCounts old new)
   pub refused : OnErr result (new.reading ≡ None)
@@ -89,7 +93,67 @@ pub record Opens {T : Type 0} (name : List ℕ) (old : Shown) (result : Result T
 -- reading the next bytes of the open file into a buffer, with this result
 pub record Reads {E : Type 0} (into : List ℕ) (old : Shown) (result : Result ℕ E) (new : Shown) : Type 0 where
   pub keeps : KeepsFiles old new
+  pub writing : new.writing ≡ old.writing
   pub ok : IfOk result (λ n. IfSome old.reading (TakesBytes into old new n))
   pub counts : OnOk result (KeepsCounts old new)
   pub refused : OnErr result (new.reading ≡ None)
   pub failed : OnErr result (FailsReading old new)
+
+-- a relation between files, where they are told before and after
+abbrev pub WhereTold : (Files → Files → Type 0) → Option Files → Option Files → Type 0
+WhereTold Relates None None = ⊤
+WhereTold Relates (Some old) (Some new) = Relates old new
+WhereTold Relates _ _ = ⊥
+
+-- the file of this name has these bytes, and every other file is as before
+pub record Sets (name bytes : List ℕ) (old new : Files) : Type 0 where
+  pub there : file_at new name ≡ Some bytes
+  pub others : (other : List ℕ) → other ≢ name → file_at new other ≡ file_at old other
+
+-- this piece was appended to the file of this name, and every other file is as before
+pub record Extends (name piece : List ℕ) (old new : Files) : Type 0 where
+  pub bytes : List ℕ
+  pub was : file_at old name ≡ Some bytes
+  pub sets : Sets name (bytes ++ piece) old new
+
+-- some prefix of this piece was appended to the file of this name, where files are told
+abbrev pub ExtendsByPrefix : List ℕ → List ℕ → Option Files → Option Files → Type 0
+ExtendsByPrefix name piece old new = (n : ℕ) × WhereTold (Extends name (take n piece)) old new
+
+-- a call of writing failed: its faults rose and no other count, and nothing is being written
+pub record FailsWriting (old new : Shown) : Type 0 where
+  pub write_faults : Rose old.write_faults new.write_faults
+  pub keeps : old.write_faults ≤ new.write_faults
+  pub read_faults : new.read_faults ≡ old.read_faults
+  pub misses : new.misses ≡ old.misses
+  pub writing : new.writing ≡ None
+
+-- the file of this name is being written, and where files are told it is empty and all others are as before
+pub record IsCreated (name : List ℕ) (old new : Shown) : Type 0 where
+  pub writing : new.writing ≡ Some name
+  pub files : WhereTold (Sets name []) old.files new.files
+
+-- creating the file of this name, with this result: nothing is open for reading, and a failure may empty that file
+pub record Creates {T E : Type 0} (name : List ℕ) (old : Shown) (result : Result T E) (new : Shown) : Type 0 where
+  pub reading : new.reading ≡ None
+  pub ok : OnOk result (IsCreated name old new)
+  pub counts : OnOk result (KeepsCounts old new)
+  pub refused : OnErr result ((new.files ≡ old.files) ⊎ WhereTold (Sets name []) old.files new.files)
+  pub failed : OnErr result (FailsWriting old new)
+
+-- appending this piece to the file that is being written, with this result
+pub record WritesPiece {T E : Type 0} (piece : List ℕ) (old : Shown) (result : Result T E) (new : Shown) : Type 0 where
+  pub reading : new.reading ≡ old.reading
+  pub ok : OnOk result (IfSome old.writing (λ name. WhereTold (Extends name piece) old.files new.files))
+  pub writing : OnOk result (new.writing ≡ old.writing)
+  pub counts : OnOk result (KeepsCounts old new)
+  pub refused : OnErr result (IfSome old.writing (λ name. ExtendsByPrefix name piece old.files new.files))
+  pub failed : OnErr result (FailsWriting old new)
+
+-- ending the file that is being written, with this result: no file changes, and nothing is being written
+pub record Finishes {T E : Type 0} (old : Shown) (result : Result T E) (new : Shown) : Type 0 where
+  pub files : new.files ≡ old.files
+  pub reading : new.reading ≡ old.reading
+  pub writing : new.writing ≡ None
+  pub counts : OnOk result (KeepsCounts old new)
+  pub failed : OnErr result (FailsWriting old new)

@@ -1,9 +1,9 @@
-//! The outside of the program as traits: files that are read, outputs that are written, and a gate round each piece of
+//! The outside of the program as traits: files that are read and written, outputs that are written, and a gate round each piece of
 //! work; with implementations in memory, and the real ones.
 #![tactic(auto)]
 
-ghost use Rattle.std.specs.Prelude.{◌<◌, ◌≤◌, length, IsSome};
-ghost use Rattle.audit_ports.specs.Shelf.{Shown, Opens, Reads, Rose};
+ghost use Rattle.std.specs.Prelude.{◌≡◌, ◌<◌, ◌≤◌, length, None, IsSome};
+ghost use Rattle.audit_ports.specs.Shelf.{Shown, Opens, Reads, Creates, WritesPiece, Finishes, Rose};
 ghost use Rattle.audit_ports.specs.Sink.{SinkShown, Writes, Flushes};
 
 mod memory;
@@ -27,7 +27,7 @@ pub enum OpenFault {
     Failed,
 }
 
-/// A place with files, of which one can be open for reading. It counts its failures of reading, its failures of
+/// A place with files, of which one can be open for reading, and one can be being written. It counts its failures of reading, its failures of
 /// writing and its misses; no count ever falls, and one that rises stands still at 2^64 - 1.
 pub trait Shelf {
     /// What is known of it.
@@ -44,6 +44,25 @@ pub trait Shelf {
         requires opened { IsSome (shown self.old).reading }
         requires room { 0 < length into.old }
         ensures { Reads into.new (shown self.old) result (shown self.new) };
+
+    /// Closes what was open for reading, and begins to write the file of this name: it is empty, and what it held
+    /// before is lost. `Failed` raises the count of failures of writing alone; the file may then be empty, and nothing
+    /// is being written.
+    fn create(&mut self, name: &[u8]) -> Result<(), Failed>
+        requires { (shown self.old).writing ≡ None }
+        ensures { Creates name.now (shown self.old) result (shown self.new) };
+
+    /// Appends a piece to the file that is being written. `Failed` raises the count of failures of writing alone, and
+    /// then a prefix of the piece may have been appended, and nothing is being written.
+    fn write(&mut self, piece: &[u8]) -> Result<(), Failed>
+        requires { IsSome (shown self.old).writing }
+        ensures { WritesPiece piece.now (shown self.old) result (shown self.new) };
+
+    /// Hands on what was written of the file, and ends its writing. `Failed` raises the count of failures of writing
+    /// alone. Both leave the files as they are, and nothing being written.
+    fn finish(&mut self) -> Result<(), Failed>
+        requires { IsSome (shown self.old).writing }
+        ensures { Finishes (shown self.old) result (shown self.new) };
 }
 
 /// An output. It counts its failures; the count never falls, and where it rises it stands still at 2^64 - 1. It is

@@ -1,12 +1,19 @@
-//! The real files and outputs, of which no clause says what they hold.
+//! The real files and outputs, of which no clause says what they hold; and a file in memory that is written.
+ghost use Rattle.std.specs.Prelude.{◌≡◌, None, IfOk};
+ghost use Rattle.audit_ports.specs.MemoryShown.{memory_shown};
+
 use crate::real::read_stream;
-use crate::{Failed, OpenFault, RealShelf, RealSink, Shelf, Sink};
+use crate::{Failed, MemoryShelf, OpenFault, RealShelf, RealSink, Shelf, Sink};
+use stale_model::{Bytes, List};
+use std::alloc::{AllocError, Global};
 use std::io::{self, ErrorKind, Read, Write};
 use std::test::Fail;
 use std::{fs, process};
 
 // Opens a file, and reads three times into the same two bytes.
-fn read_thrice(shelf: &mut impl Shelf, name: &[u8]) -> Result<([usize; 3], [u8; 2]), OpenFault> {
+fn read_thrice<S: Shelf>(shelf: &mut S, name: &[u8]) -> Result<([usize; 3], [u8; 2]), OpenFault>
+    ensures { (S.shown shelf.new).writing ≡ (S.shown shelf.old).writing }
+{
     shelf.open(name)?;
     let mut into = [0u8; 2];
     let Ok(first) = shelf.read(&mut into) else {
@@ -19,6 +26,16 @@ fn read_thrice(shelf: &mut impl Shelf, name: &[u8]) -> Result<([usize; 3], [u8; 
         return Err(OpenFault::Failed);
     };
     Ok(([first, second, third], into))
+}
+
+// Writes a file of one piece.
+fn write_file<S: Shelf>(shelf: &mut S, name: &[u8], piece: &[u8]) -> Result<(), Failed>
+    requires { (S.shown shelf.old).writing ≡ None }
+    ensures { (S.shown shelf.new).writing ≡ None }
+{
+    shelf.create(name)?;
+    shelf.write(piece)?;
+    shelf.finish()
 }
 
 #[test]
@@ -160,5 +177,73 @@ fn a_real_output_takes_all_or_fails(rt: HostRuntime) -> Result<(), Fail> {
         (error.write(b"standard error\n"), error.flush()),
         (Ok(()), Ok(()))
     );
+    Ok(())
+}
+
+#[test]
+fn a_longer_real_file_is_replaced(rt: HostRuntime) -> Result<(), Fail> {
+    let name = format!(in rt.alloc(); "audit-ports-old-{}", process::id(rt.process()))?;
+    let mut shelf = RealShelf::over(rt);
+    fs::write(&rt, name.as_str(), b"old and longer".as_slice())?;
+    let written = write_file(&mut shelf, name.as_bytes(), b"new");
+    let bytes = fs::read(&rt, name.as_str())?;
+    fs::remove_file(&rt, name.as_str())?;
+
+    assert_eq!(rt; written, Ok(()));
+    assert_eq!(rt; bytes.as_slice(), b"new".as_slice());
+    Ok(())
+}
+
+#[test]
+fn a_real_file_in_no_folder_is_not_written(rt: HostRuntime) {
+    let mut shelf = RealShelf::over(rt);
+    assert_eq!(rt; shelf.create(b"no-such-folder/file"), Err(Failed));
+}
+
+#[test]
+fn a_real_file_that_was_read_is_not_written(rt: HostRuntime) -> Result<(), Fail> {
+    let name = format!(in rt.alloc(); "audit-ports-read-{}", process::id(rt.process()))?;
+    let same = format!(in rt.alloc(); "./{name}")?;
+    let mut shelf = RealShelf::over(rt);
+    fs::write(&rt, name.as_str(), b"abc".as_slice())?;
+    let read = read_thrice(&mut shelf, name.as_bytes());
+    let written = write_file(&mut shelf, same.as_bytes(), b"new");
+    let bytes = fs::read(&rt, name.as_str())?;
+    fs::remove_file(&rt, name.as_str())?;
+
+    assert_eq!(rt; read, Ok(([2, 1, 0], *b"cb")));
+    assert_eq!(rt; written, Err(Failed));
+    assert_eq!(rt; bytes.as_slice(), b"abc".as_slice());
+    Ok(())
+}
+
+// A shelf in memory with one file, "h", whose calls of these numbers fail.
+fn shelf_with_h(alloc: Global, fail: &[u32]) -> Result<MemoryShelf, AllocError>
+    ensures { IfOk result (λ shelf. (memory_shown shelf).writing ≡ None) }
+{
+    let (Ok(name), Ok(bytes)) = (Bytes::of(alloc, b"h"), Bytes::of(alloc, b"abc")) else {
+        return Err(AllocError);
+    };
+    let mut files = Vec::new(alloc);
+    files.push((name, bytes))?;
+    let fail = List::from_vec(Vec::from_slice(alloc, fail)?);
+    match MemoryShelf::prepare(alloc, List::from_vec(files), fail) {
+        Ok(shelf) => Ok(shelf),
+        Err(_) => Err(AllocError),
+    }
+}
+
+// Calls 1 to 3 write one file whole; call 4 creates the other, and call 5 is its write.
+#[test]
+fn a_refused_write_adds_nothing_in_memory(rt: HostRuntime) -> Result<(), Fail> {
+    let mut shelf = shelf_with_h(rt.alloc(), &[5])?;
+    let first = write_file(&mut shelf, b"c", b"new");
+    assert_eq!(rt; first, Ok(()));
+    assert!(rt; shelf.file(b"c") == Some(b"new".as_slice()), "before");
+    let second = write_file(&mut shelf, b"h", b"xy");
+    assert_eq!(rt; second, Err(Failed));
+    assert!(rt; shelf.file(b"h") == Some(b"".as_slice()), "after");
+    assert!(rt; shelf.file(b"c") == Some(b"new".as_slice()), "other");
+    assert!(rt; shelf.file(b"d").is_none(), "absent");
     Ok(())
 }

@@ -112,6 +112,18 @@ impl Shelf for ShortShelf {
         let most = self.most.min(into.len());
         self.inner.read(&mut into[..most])
     }
+
+    fn create(&mut self, name: &[u8]) -> Result<(), Failed> {
+        self.inner.create(name)
+    }
+
+    fn write(&mut self, piece: &[u8]) -> Result<(), Failed> {
+        self.inner.write(piece)
+    }
+
+    fn finish(&mut self) -> Result<(), Failed> {
+        self.inner.finish()
+    }
 }
 
 // Runs a row over a shelf, and demands its answer.
