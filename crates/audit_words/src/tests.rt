@@ -17,12 +17,15 @@ fn gives_tasks(rt: HostRuntime) -> Result<(), Fail> {
     let Some(
         Task::Audit {
             file,
-            cert: Some(cert),
+            cert,
             workers,
         },
     ) = task_of(rt.alloc(), &words)?
     else {
-        return Err(Fail::new("no such task"));
+        return Err(Fail::new("no audit"));
+    };
+    let Some(cert) = cert else {
+        return Err(Fail::new("no certificate"));
     };
     assert_eq!(rt; file.as_slice(), b"h".as_slice());
     assert_eq!(rt; cert.as_slice(), b"-c".as_slice());
