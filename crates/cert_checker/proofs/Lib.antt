@@ -1,0 +1,9 @@
+pub mod Lookups
+pub mod FourOps
+pub mod Starts
+pub mod InOrder
+pub mod Marks
+pub mod Returning
+pub mod WholeOrders
+pub mod Exact
+pub mod StaleKey

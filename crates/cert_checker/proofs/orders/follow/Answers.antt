@@ -1,0 +1,89 @@
+use Rattle.std.proofs.Common.{rules, ◌≡◌, ◌⊎◌, inl, inr, ◌<◌, ℕ, Bool, true, false, List, length, get_or, arith, subst, sym, ap, ◌∙◌, Some}
+use Rattle.std.specs.Prelude.{Contains, is_ok}
+use Rattle.std.proofs.lemmas.List.{length-set}
+use Rattle.std.proofs.lemmas.Option.{slice_get-get_or, slice_get_within}
+use Rattle.stale_model.specs.declared.Op.{Op}
+use Rattle.stale_model.specs.Operations.{operations, records_of}
+use Rattle.stale_model.specs.Orders.{StandsAt}
+use Rattle.stale_model.proofs.Places.{record_stands, at_its_place}
+use Rattle.cert_checker.specs.declared.records.Placed.{Placed}
+use Rattle.cert_checker.specs.Records.{IsPlaced, IsFound}
+use Rattle.cert_checker.specs.OrderFaults.{StandsTo}
+use Rattle.cert_checker.proofs.Lookups.{of_record, record_at, no_record}
+use Rattle.cert_checker.proofs.Marks.{Rises, good_more, marks_more, first_stray, fresh_at, read_is, key_rises, listed_more, known_to_end}
+use Rattle.cert_checker.proofs.orders.follow.Goals.{in_default-via-in-Some+else-not-index, in_default-via-in_default}
+use Rattle.cert_checker.proofs.orders.follow.Goals as goal
+
+pub returns-in_default : goal.returns-in_default
+returns-in_default c =
+    first_stray ops order n rec c.loop-rec.invariant.good (slice_get-get_or order n 0 c.loop-rec-test.true) why
+  where
+    ops : List Op
+    ops = operations c.args.key.now
+
+    order : List ℕ
+    order = c.args.order.now
+
+    n : ℕ
+    n = c.loop-rec.rec-index
+
+    rec : ℕ
+    rec = get_or order n 0
+
+    stands : (found : Placed) (r : Bool) → IsPlaced ops rec found → r ≡ get_or c.loop-rec.marks.items found.place r → r ≡ true → StandsTo order n rec
+    stands found r is read e =
+        let there : StandsAt (records_of ops) found.place rec = record_at ops rec found is in
+        c.loop-rec.invariant.marked.only found.place rec there
+        (slice_get-get_or c.loop-rec.marks.items found.place true (subst (λ k. found.place < k) (sym c.loop-rec.invariant.one_each) (slice_get_within ops found.place found.op is.there))
+        ∙ ap (λ x. Some x) (read_is c.loop-rec.marks.items found.place r true read e))
+
+    why : (Contains (records_of ops) rec → ⊥) ⊎ StandsTo order n rec
+    why = elim c.in_default.branch [
+      | in_default-via-in-Some+else-not-index w ↦ inr (stands w.in-Some.found w.index.result.now (subst (IsFound ops rec) w.in-Some.is c.find.ensures) w.index.ensures w.if-not-index.false)
+      | in_default-via-in_default w ↦ inl (no_record ops rec (subst (IsFound ops rec) w.in_default.is c.find.ensures))
+    ]
+
+pub loop-rec-preserved : goal.loop-rec-preserved
+loop-rec-preserved c =
+    let went : is_ok c.push.result ≡ true = sym c.map_err-in-Some.ensures.variant ∙ ap is_ok c.in_ok-map_err-in-Some.was in
+    let pushed = rw went at c.push.ensures.items in
+    record {
+      one_each = length-set c.loop-rec.marks.items c.in-Some.found.place true ∙ c.loop-rec.invariant.one_each;
+      good = good_more (records_of ops) order n rec c.in-Some.found.place rises at there c.loop-rec.invariant.good
+          (fresh_at c.loop-rec.marks.items (records_of ops) order n c.in-Some.found.place rec c.loop-rec.invariant.marked there
+          (read_is c.loop-rec.marks.items c.in-Some.found.place c.index.result.now false c.index.ensures c.if-not-index.true));
+      marked = marks_more (records_of ops) order n rec c.in-Some.found.place rises at there c.loop-rec.marks.items
+          (subst (λ k. c.in-Some.found.place < k) (sym c.loop-rec.invariant.one_each) (slice_get_within ops c.in-Some.found.place c.in-Some.found.op is.there)) c.loop-rec.invariant.marked;
+      in_order = rw pushed
+          (listed_more ops order n c.loop-rec.ops.items c.in-Some.found.op (of_record ops rec c.in-Some.found is).there
+          (subst (StandsAt order n) (sym is.record_is) at) c.loop-rec.invariant.in_order);
+    }
+  where
+    ops : List Op
+    ops = operations c.args.key.now
+
+    order : List ℕ
+    order = c.args.order.now
+
+    n : ℕ
+    n = c.loop-rec.rec-index
+
+    rec : ℕ
+    rec = get_or order n 0
+
+    rises : Rises (records_of ops)
+    rises = key_rises c.args.key.now c.requires
+
+    at : StandsAt order n rec
+    at = slice_get-get_or order n 0 c.loop-rec-test.true
+
+    is : IsPlaced ops rec c.in-Some.found
+    is = subst (IsFound ops rec) c.in-Some.is c.find.ensures
+
+    there : StandsAt (records_of ops) c.in-Some.found.place rec
+    there = record_at ops rec c.in-Some.found is
+
+pub returns : goal.returns
+returns c =
+    known_to_end (operations c.args.key.now) c.args.order.now c.loop-rec.rec-index c.loop-rec.ops.items c.loop-rec.marks.items (search rules) (search rules)
+    c.loop-rec.invariant.one_each c.loop-rec.invariant.good c.loop-rec.invariant.marked c.loop-rec.invariant.in_order
