@@ -1,5 +1,5 @@
 -- A list with a fault is no order.
-use Rattle.std.proofs.Common.{◌≡◌, ℕ, List, refl, sym, inl, inr, subst, arith}
+use Rattle.std.proofs.Common.{◌≡◌, ℕ, List, refl, inl, inr, subst, arith}
 use Rattle.stale_model.specs.declared.Op.{Op}
 use Rattle.stale_model.specs.Orders.{IsOrder}
 use Rattle.stale_model.proofs.Places.{contains_at}

@@ -1,10 +1,9 @@
 -- Four records hold exactly where their operations do.
-use Rattle.std.proofs.Common.{◌≡◌, ◌≢◌, ℕ, sym, ◌∙◌, ap, subst}
+use Rattle.std.proofs.Common.{◌≡◌, ℕ, subst}
 use Rattle.stale_model.specs.declared.Op.{Op}
 use Rattle.stale_model.specs.declared.KeyOps.{KeyOps}
 use Rattle.stale_model.specs.declared.Four.{Four}
 use Rattle.stale_model.specs.Operations.{operations}
-use Rattle.stale_model.specs.Precedence.{Precedes}
 use Rattle.stale_model.specs.Valid.{IsValidKey}
 use Rattle.stale_model.specs.Shown.{FourHold}
 use Rattle.cert_checker.specs.declared.records.Placed.{Placed}

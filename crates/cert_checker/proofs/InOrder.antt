@@ -1,5 +1,5 @@
 -- The operations of a list of records, in its order.
-use Rattle.std.proofs.Common.{◌≡◌, ℕ, ◌+◌, ◌<◌, ◌≤◌, List, length, Some, get_or, map, refl, sym, ◌∙◌, ap, subst, below_more, inl, inr, arith}
+use Rattle.std.proofs.Common.{◌≡◌, ℕ, ◌+◌, ◌<◌, ◌≤◌, List, length, get_or, subst, below_more, inl, inr, arith}
 use Rattle.std.specs.Prelude.{Contains}
 use Rattle.std.proofs.lemmas.Bool.{cases_lt}
 use Rattle.std.proofs.lemmas.List.{length-map}
@@ -10,7 +10,7 @@ use Rattle.stale_model.specs.declared.KeyOps.{KeyOps}
 use Rattle.stale_model.specs.Operations.{operations, records_of, latest_finish}
 use Rattle.stale_model.specs.Orders.{StandsAt}
 use Rattle.stale_model.specs.Valid.{IsValidKey}
-use Rattle.stale_model.proofs.Places.{contains_at, at_its_place, something_at, same_at, record_stands}
+use Rattle.stale_model.proofs.Places.{contains_at, something_at, same_at, record_stands}
 use Rattle.model_laws.proofs.Named.{key_differs}
 use Rattle.cert_checker.specs.declared.orders.Latest.{Latest}
 use Rattle.cert_checker.specs.OrderFaults.{IsFirstWrong, IsNowhere, IsBackwards}

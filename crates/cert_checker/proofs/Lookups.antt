@@ -1,6 +1,6 @@
 -- Operations of a valid key: the one of a record, and when each starts and finishes.
-use Rattle.std.proofs.Common.{◌≡◌, ◌≢◌, ℕ, zero, suc, ◌+◌, ◌-◌, ◌<◌, ◌≤◌, ◌^◌, max, Bool, true, false, cond, List, ◌∷◌, length, get_or, refl, sym, ◌∙◌, ap, inl, inr, subst, arith, add-one}
-use Rattle.std.specs.Prelude.{Option, Some, None, slice_get, Contains, ◌==◌, if◌then◌else◌}
+use Rattle.std.proofs.Common.{◌≡◌, ◌≢◌, ℕ, ◌+◌, ◌-◌, ◌<◌, ◌≤◌, ◌^◌, max, Bool, true, false, List, length, get_or, sym, ◌∙◌, ap, inl, inr, subst, arith, add-one}
+use Rattle.std.specs.Prelude.{Contains, ◌==◌, if◌then◌else◌}
 use Rattle.std.specs.List.{HoldsAt}
 use Rattle.std.specs.List.Sorted.{IsNonDecreasingBy, IsPartitionPoint}
 use Rattle.std.specs.declared.cmp.Ordering.TheVariants.{Less, Equal, Greater}
@@ -8,7 +8,7 @@ use Rattle.std.specs.Ordering.{nat_cmp, ordering_index}
 use Rattle.std.proofs.lemmas.Bool.{cases_lt}
 use Rattle.std.proofs.lemmas.Cmp.{nat_cmp_total}
 use Rattle.std.proofs.lemmas.List.{get_or-map, length-map}
-use Rattle.std.proofs.lemmas.List.Elements.{All-contains, Contains-get_or}
+use Rattle.std.proofs.lemmas.List.Elements.{All-contains}
 use Rattle.std.proofs.lemmas.List.Sorted.{searchable_from_sorted}
 use Rattle.std.proofs.lemmas.Option.{slice_get-get_or}
 use Rattle.stale_model.specs.declared.Op.{Op}
@@ -22,7 +22,7 @@ use Rattle.stale_model.proofs.Places.{contains_at, at_its_place, something_at, s
 use Rattle.stale_model.proofs.Sorted.{rises_from, first_or_later}
 use Rattle.model_laws.proofs.Named.{key_differs}
 use Rattle.cert_checker.specs.declared.records.Placed.{Placed}
-use Rattle.cert_checker.specs.Records.{IsPlaced, IsFound}
+use Rattle.cert_checker.specs.Records.{IsPlaced}
 
 module _ (key : KeyOps) (valid : IsValidKey key) where
   rises : (j k : ℕ) (past : Op) → j < k → k < length key.ops → (get_or key.ops j past).rec < (get_or key.ops k past).rec

@@ -1,25 +1,21 @@
 -- What reads return in a list that is walked to one of its places, by how many writes stand up to each write.
-use Rattle.std.proofs.Common.{◌≡◌, ◌≢◌, ◌⊎◌, inl, inr, ℕ, zero, ◌+◌, ◌-◌, ◌<◌, ◌≤◌, Bool, true, false, List, cond, length, get_or, set, take, drop, replicate, refl, sym, ◌∙◌, ap, subst, arith}
-use Rattle.std.specs.Prelude.{Contains, slice_range, count_by, ◌==◌, ◌&&◌, Some}
-use Rattle.std.specs.List.{list_any}
-use Rattle.std.proofs.lemmas.Bool.{cases_eq, cases_lt, cases_Bool, and_parts, eqb-true, both_ways}
-use Rattle.std.proofs.lemmas.List.{take-take, drop-take, get_or-replicate, length-replicate, get_or_past}
+use Rattle.std.proofs.Common.{◌≡◌, ◌≢◌, ◌⊎◌, inl, inr, ℕ, ◌+◌, ◌-◌, ◌<◌, ◌≤◌, Bool, false, List, cond, length, get_or, set, take, drop, sym, ◌∙◌, ap, subst, arith}
+use Rattle.std.specs.Prelude.{Contains, slice_range, count_by, ◌==◌, ◌&&◌}
+use Rattle.std.proofs.lemmas.Bool.{cases_eq, cases_Bool, and_parts, eqb-true}
+use Rattle.std.proofs.lemmas.List.{take-take, drop-take}
 use Rattle.std.proofs.lemmas.List.Sums.{sum_by-take-drop, count_by_more_yes, count_by_more_no}
 use Rattle.std.proofs.lemmas.Option.{slice_get_within, get_or_from_slice_get}
 use Rattle.stale_model.specs.declared.Op.{Op}
-use Rattle.stale_model.specs.declared.KeyOps.{KeyOps}
-use Rattle.stale_model.specs.Operations.{IsRead, IsWrite, is_write, operations, records_of}
-use Rattle.stale_model.specs.Faults.{IsReadIn, IsWriteOf, IsMatchedKey}
-use Rattle.stale_model.specs.Valid.{IsValidKey}
+use Rattle.stale_model.specs.Operations.{IsRead, IsWrite, is_write}
+use Rattle.stale_model.specs.Faults.{IsReadIn, IsWriteOf}
 use Rattle.stale_model.specs.NamedWrites.{NamesItsWrites}
-use Rattle.stale_model.specs.Orders.{StandsAt, StandsBefore, IsWithoutRepeats, is_write_record, IsAmongLast}
+use Rattle.stale_model.specs.Orders.{StandsAt, IsWithoutRepeats, is_write_record, IsAmongLast}
 use Rattle.stale_model.proofs.ReadsAndWrites.{kind_is_write}
 use Rattle.stale_model.proofs.Places.{same_at}
 use Rattle.model_laws.proofs.Tests.{some_passes}
 use Rattle.model_laws.proofs.OrderPlaces.{write_is_known}
-use Rattle.cert_checker.specs.OrderFaults.{IsFirstWrong, StandsTo, IsUnreturned}
+use Rattle.cert_checker.specs.OrderFaults.{StandsTo, IsUnreturned}
 use Rattle.cert_checker.specs.Steps.{Returns}
-use Rattle.cert_checker.proofs.InOrder.{not_below}
 use Rattle.cert_checker.proofs.Marks.{set_at, set_back, below_or_at}
 
 -- how many pass up to one place, and from there to another

@@ -1,6 +1,5 @@
 -- The greatest earliest starts so far, and what they tell.
-use Rattle.std.proofs.Common.{◌≡◌, ◌⊎◌, inl, inr, ◌<◌, ◌≤◌, ◌+◌, ℕ, List, length, Some, None, slice_get, get_or, Option, max, below_more, refl, sym, ◌∙◌, ap, subst, arith}
-use Rattle.std.proofs.lemmas.Option.{slice_get-get_or, slice_get_within}
+use Rattle.std.proofs.Common.{◌≡◌, ◌⊎◌, inl, inr, ◌<◌, ◌≤◌, ◌+◌, ℕ, List, max, refl, sym, ap, subst, arith}
 use Rattle.stale_model.specs.declared.Op.{Op}
 use Rattle.stale_model.specs.declared.Kind.{Kind}
 use Rattle.stale_model.specs.declared.Kind.TheVariants.{Read, Write}

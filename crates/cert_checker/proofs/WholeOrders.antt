@@ -1,5 +1,5 @@
 -- What the three steps find is what is said of the list.
-use Rattle.std.proofs.Common.{◌≡◌, ℕ, ◌<◌, List, refl, sym, inl, inr, subst, arith}
+use Rattle.std.proofs.Common.{◌≡◌, ℕ, List, refl, sym, inl, inr, subst, arith}
 use Rattle.std.specs.Prelude.{Contains, Option, None}
 use Rattle.std.proofs.lemmas.Bool.{cases_order}
 use Rattle.stale_model.specs.declared.Op.{Op}
@@ -11,7 +11,7 @@ use Rattle.stale_model.specs.Orders.{StandsAt, StandsBefore, ListsEachOnce, IsOr
 use Rattle.stale_model.proofs.Places.{same_at, at_its_place}
 use Rattle.model_laws.proofs.Named.{key_differs}
 use Rattle.model_laws.proofs.OrderPlaces.{record_is_known}
-use Rattle.cert_checker.specs.OrderFaults.{IsNowhere, IsBackwards, IsFirstWrong, IsUnreturned, IsWrongPrecedence, IsWrongReturn}
+use Rattle.cert_checker.specs.OrderFaults.{IsNowhere, IsBackwards}
 use Rattle.cert_checker.specs.Steps.{AreListed, FindsBackwards, FindsUnreturned}
 use Rattle.cert_checker.proofs.Lookups.{starts_first}
 

@@ -1,5 +1,5 @@
 //! The operations of a key by their records.
-ghost use Rattle.std.specs.Prelude.{◌≡◌, IfSome, IsTrue, ◌↔◌, ◌^◌, ◌<◌};
+ghost use Rattle.std.specs.Prelude.{IfSome, IsTrue, ◌↔◌, ◌^◌, ◌<◌};
 ghost use Rattle.stale_model.specs.Operations.{operations, latest_finish};
 ghost use Rattle.stale_model.specs.Valid.{IsValidKey};
 ghost use Rattle.stale_model.specs.Precedence.{Precedes};

@@ -1,9 +1,5 @@
-use Rattle.std.proofs.Common.{◌≡◌, sym, true≢false}
-use Rattle.stale_model.specs.declared.Op.{Op}
-use Rattle.stale_model.specs.declared.Four.{Four}
+use Rattle.std.proofs.Common.{sym, true≢false}
 use Rattle.stale_model.specs.Operations.{operations}
-use Rattle.stale_model.specs.Shown.{FourHold}
-use Rattle.cert_checker.specs.Fours.{OpsHold}
 use Rattle.cert_checker.proofs.Lookups.{ends, of_record}
 use Rattle.cert_checker.proofs.FourOps.{four_from_ops, ops_from_four}
 use Rattle.cert_checker.proofs.four.four_hold.Goals as goal

@@ -1,4 +1,4 @@
-use Rattle.std.proofs.Common.{rules, arith, ◌≡◌, ◌<◌, ◌+◌, ℕ, subst, sym, true≢false, List, get_or}
+use Rattle.std.proofs.Common.{rules, arith, ◌≡◌, ◌+◌, subst, sym, true≢false, get_or}
 use Rattle.std.proofs.lemmas.Option.{slice_get-get_or}
 use Rattle.stale_model.specs.Operations.{latest_finish}
 use Rattle.cert_checker.specs.Steps.{IsAfter}

@@ -1,4 +1,4 @@
-use Rattle.std.proofs.Common.{rules, arith, ap, length}
+use Rattle.std.proofs.Common.{arith, ap, length}
 use Rattle.cert_checker.proofs.InOrder.{no_op}
 use Rattle.cert_checker.proofs.Marks.{unmarked_here, marked_more}
 use Rattle.cert_checker.proofs.orders.first_unmarked.Goals as goal

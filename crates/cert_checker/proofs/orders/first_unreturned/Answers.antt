@@ -1,10 +1,10 @@
-use Rattle.std.proofs.Common.{rules, ◌≡◌, ◌≢◌, ◌⊎◌, inl, inr, ◌<◌, ◌≤◌, ◌+◌, ◌-◌, ℕ, List, length, get_or, take, refl, sym, ◌∙◌, ap, subst, arith}
+use Rattle.std.proofs.Common.{◌≡◌, ◌≢◌, ◌⊎◌, inl, inr, ◌<◌, ◌≤◌, ◌+◌, ◌-◌, ℕ, List, length, get_or, take, refl, ◌∙◌, arith}
 use Rattle.std.specs.Prelude.{Contains, count_by}
 use Rattle.std.proofs.lemmas.List.{length-set, length-map}
-use Rattle.std.proofs.lemmas.Option.{slice_get-get_or, slice_get_within, slice_get_read}
+use Rattle.std.proofs.lemmas.Option.{slice_get-get_or, slice_get_read}
 use Rattle.stale_model.specs.declared.Op.{Op}
 use Rattle.stale_model.specs.declared.KeyOps.{KeyOps}
-use Rattle.stale_model.specs.Operations.{IsRead, operations, records_of}
+use Rattle.stale_model.specs.Operations.{operations, records_of}
 use Rattle.stale_model.specs.Orders.{StandsAt, is_write_record}
 use Rattle.stale_model.specs.NamedWrites.{NamesItsWrites}
 use Rattle.stale_model.proofs.Places.{record_stands, at_its_place, same_at}
@@ -12,7 +12,7 @@ use Rattle.model_laws.proofs.Named.{matched_keys_name_their_writes}
 use Rattle.cert_checker.specs.OrderFaults.{IsUnreturned}
 use Rattle.cert_checker.proofs.Lookups.{in_slots}
 use Rattle.cert_checker.proofs.InOrder.{no_op, known_at, not_below}
-use Rattle.cert_checker.proofs.Returning.{IsSlot, none_before, count_write, count_read, slots_write, slots_read, returned_more, returns_here, unreturned_here, passed_le}
+use Rattle.cert_checker.proofs.Returning.{none_before, count_write, count_read, slots_write, slots_read, returned_more, returns_here, unreturned_here, passed_le}
 use Rattle.cert_checker.proofs.orders.first_unreturned.Goals.{then-index-eq0-via-then-index-eq0, then-index-eq0-via-else-index-eq0+then-writes-index, in-Write, in-Read+else-index-eq0+else-writes-index}
 use Rattle.cert_checker.proofs.orders.first_unreturned.Goals as goal
 

@@ -1,11 +1,10 @@
-use Rattle.std.proofs.Common.{rules, ◌≡◌, ◌⊎◌, inl, inr, ◌<◌, ℕ, Bool, true, false, List, length, get_or, arith, subst, sym, ap, ◌∙◌, Some}
+use Rattle.std.proofs.Common.{rules, ◌≡◌, ◌⊎◌, inl, inr, ◌<◌, ℕ, Bool, true, false, List, get_or, subst, sym, ap, ◌∙◌, Some}
 use Rattle.std.specs.Prelude.{Contains, is_ok}
 use Rattle.std.proofs.lemmas.List.{length-set}
 use Rattle.std.proofs.lemmas.Option.{slice_get-get_or, slice_get_within}
 use Rattle.stale_model.specs.declared.Op.{Op}
 use Rattle.stale_model.specs.Operations.{operations, records_of}
 use Rattle.stale_model.specs.Orders.{StandsAt}
-use Rattle.stale_model.proofs.Places.{record_stands, at_its_place}
 use Rattle.cert_checker.specs.declared.records.Placed.{Placed}
 use Rattle.cert_checker.specs.Records.{IsPlaced, IsFound}
 use Rattle.cert_checker.specs.OrderFaults.{StandsTo}

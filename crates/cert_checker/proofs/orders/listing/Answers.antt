@@ -1,4 +1,4 @@
-use Rattle.std.proofs.Common.{◌≡◌, List, None, subst}
+use Rattle.std.proofs.Common.{List, None, subst}
 use Rattle.stale_model.specs.declared.Op.{Op}
 use Rattle.stale_model.specs.Operations.{operations}
 use Rattle.cert_checker.specs.Steps.{IsWalk, IsKnown, IsFirstUnmarked, FindsUnmarked}

@@ -1,8 +1,7 @@
 use Rattle.std.proofs.Common.{◌≡◌, ◌∙◌, List, Some, None, ap, subst}
 use Rattle.stale_model.specs.declared.Op.{Op}
 use Rattle.stale_model.specs.Operations.{operations, records_of}
-use Rattle.stale_model.specs.Orders.{ListsEachOnce}
-use Rattle.cert_checker.specs.Steps.{IsListed, AreListed, FindsUnreturned}
+use Rattle.cert_checker.specs.Steps.{IsListed}
 use Rattle.cert_checker.proofs.WholeOrders.{order_from, none_for, returns_for}
 use Rattle.cert_checker.proofs.orders.order_fault.Goals as goal
 
