@@ -23,7 +23,7 @@ fn ops_hold(d: u64, p: &Op, q: &Op, q2: &Op, p2: &Op) -> bool
         && precedes(d, q2, p2)
 }
 
-// Whether the four records hold at d.
+/// Whether the four records hold at d.
 pub(crate) fn four_hold(d: u64, key: &KeyOps, four: &Four) -> bool
     requires { IsValidKey key.now }
     ensures { IsTrue result ↔ FourHold (operations key.now) d four.now }

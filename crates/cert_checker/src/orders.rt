@@ -24,7 +24,7 @@ pub(crate) enum OrderFault {
 }
 
 impl OrderFault {
-    // The rule that is broken, where the one on the listing has this number.
+    /// The rule that is broken, where the one on the listing has this number.
     pub(crate) fn rule(&self, listing: u8) -> u8
         requires { listing < 250 }
         ensures { result ≡ order_rule listing self.now }
@@ -36,7 +36,7 @@ impl OrderFault {
         }
     }
 
-    // The record that is named.
+    /// The record that is named.
     pub(crate) fn record(&self) -> u32
         ensures { result ≡ order_record self.now }
     {
@@ -189,7 +189,7 @@ fn first_unreturned(
     Ok(None)
 }
 
-// The fault of a list of records as an order at d in which reads return one of the last k writes.
+/// The fault of a list of records as an order at d in which reads return one of the last k writes.
 pub(crate) fn order_fault(
     alloc: Global,
     d: u64,

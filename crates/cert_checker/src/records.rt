@@ -15,7 +15,7 @@ pub(crate) struct Placed {
     pub(crate) op: Op,
 }
 
-// The operation with this record, if the key has one. Takes log n in the operations.
+/// The operation with this record, if the key has one. Takes log n in the operations.
 pub(crate) fn search(key: &KeyOps, rec: u32) -> Option<Placed>
     requires { IsValidKey key.now }
     ensures { IsFound (operations key.now) rec result }
@@ -48,7 +48,7 @@ pub(crate) struct Hints {
 }
 
 impl Hints {
-    // The table of a key.
+    /// The table of a key.
     pub(crate) fn of(alloc: Global, key: &KeyOps) -> Result<Hints, Memory>
         requires { IsValidKey key.now }
     {
@@ -93,7 +93,7 @@ impl Hints {
         }
     }
 
-    // The operation with this record, if the key has one.
+    /// The operation with this record, if the key has one.
     pub(crate) fn find(&self, key: &KeyOps, rec: u32) -> Option<Placed>
         requires { IsValidKey key.now }
         ensures { IsFound (operations key.now) rec result }
@@ -105,7 +105,7 @@ impl Hints {
     }
 }
 
-// Whether a has certainly finished before b starts, where reads are taken to start d earlier.
+/// Whether a has certainly finished before b starts, where reads are taken to start d earlier.
 pub(crate) fn precedes(d: u64, a: &Op, b: &Op) -> bool
     requires { latest_finish a.now < 2 ^ 64 }
     ensures { IsTrue result ↔ Precedes d a.now b.now }
