@@ -15,6 +15,7 @@ use Rattle.stale_model.proofs.Places.{contains_at, at_its_place, same_at, someth
 use Rattle.cert_checker.specs.OrderFaults.{IsFirstWrong, StandsTo, IsStray, IsLeastMissing, IsWrongListing}
 use Rattle.cert_checker.specs.Steps.{AreMarks, AreListed, IsFirstUnmarked, IsKnown}
 use Rattle.cert_checker.proofs.InOrder.{not_below}
+use Rattle.cert_checker.proofs.Starts.{below_or_at}
 
 -- each number is less than all later ones
 abbrev pub Rises : List ℕ → Type 0
@@ -24,9 +25,6 @@ Rises xs = (i j a b : ℕ) → i < j → StandsAt xs i a → StandsAt xs j b →
 pub record IsGoodTo (records order : List ℕ) (n : ℕ) : Type 0 where
   pub known : (i x : ℕ) → i < n → StandsAt order i x → Contains records x
   pub once : (i j x : ℕ) → i < n → j < n → StandsAt order i x → StandsAt order j x → i ≡ j
-
-pub below_or_at : (p n : ℕ) → p < n + 1 → (p < n) ⊎ (p ≡ n)
-below_or_at p n h = grind arith
 
 pub parts : (a b : ℕ) → (a ≡ b) ⊎ ((a < b) ⊎ (b < a))
 parts a b = grind arith

@@ -16,7 +16,8 @@ use Rattle.model_laws.proofs.Tests.{some_passes}
 use Rattle.model_laws.proofs.OrderPlaces.{write_is_known}
 use Rattle.cert_checker.specs.OrderFaults.{StandsTo, IsUnreturned}
 use Rattle.cert_checker.specs.Steps.{Returns}
-use Rattle.cert_checker.proofs.Marks.{set_at, set_back, below_or_at}
+use Rattle.cert_checker.proofs.Starts.{below_or_at}
+use Rattle.cert_checker.proofs.Marks.{set_at, set_back}
 
 -- how many pass up to one place, and from there to another
 pub count_between : (p : ℕ → Bool) (xs : List ℕ) (i j : ℕ) → i ≤ j → count_by p (take i xs) + count_by p (slice_range xs i j) ≡ count_by p (take j xs)

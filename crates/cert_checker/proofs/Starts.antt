@@ -9,7 +9,6 @@ use Rattle.stale_model.specs.Orders.{StandsAt}
 use Rattle.stale_model.proofs.Places.{same_at}
 use Rattle.cert_checker.specs.declared.orders.Latest.{Latest}
 use Rattle.cert_checker.specs.Steps.{IsAfter, with_kind, with_op}
-use Rattle.cert_checker.proofs.Marks.{below_or_at}
 
 -- the operation at this place precedes one that stands before it
 pub record IsBackwards (ops : List Op) (d place : ℕ) : Type 0 where
@@ -76,6 +75,9 @@ takes : (latest : Latest) (kind : Kind) (s : ℕ) → s ≤ of_kind (with_kind l
 unfolding of_kind
 takes latest Read s = omega arith
 takes latest Write s = omega arith
+
+pub below_or_at : (p i : ℕ) → p < i + 1 → (p < i) ⊎ (p ≡ i)
+below_or_at p i h = grind arith
 
 more_bound : (ops : List Op) (i : ℕ) (latest : Latest) (a : Op) → AreLatest ops i latest → StandsAt ops i a
     → (p : ℕ) (b : Op) → p < i + 1 → StandsAt ops p b → earliest_start b ≤ of_kind (with_kind latest a.kind (earliest_start a)) b.kind
