@@ -9,6 +9,7 @@ use Rattle.std.proofs.lemmas.Slice.Eq.{bytes_eq-Decides}
 use Rattle.audit_ports.specs.Shelf.{Sets, Extends, ExtendsByPrefix, WhereTold, file_at}
 use Rattle.audit_ports.specs.MemoryFiles.{files_of, has_name, with_first_longer, IsOpened, name_at, bytes_at, writing_of}
 use Rattle.std.proofs.lemmas.Option.{slice_get-get_or}
+use Rattle.std.proofs.lemmas.Bool.{false_from_ne_true}
 use Rattle.audit_ports.proofs.Finding.{file_at-place}
 use Rattle.audit_ports.specs.declared.memory.Opened.{Opened}
 
@@ -16,14 +17,9 @@ use Rattle.audit_ports.specs.declared.memory.Opened.{Opened}
 same_name : (name : List ℕ) → eq_by_cmp (slice_cmp nat_cmp) name name ≡ true
 same_name name = is_eq-slice_cmp name name ∙ (bytes_eq-Decides name name).1 refl
 
--- what can't be true is false
-not_same : (b : Bool) → (b ≡ true → ⊥) → b ≡ false
-not_same true h = absurd (h refl)
-not_same false h = refl
-
 -- and no two names that differ
 other_name : (other name : List ℕ) → other ≢ name → eq_by_cmp (slice_cmp nat_cmp) other name ≡ false
-other_name other name apart = is_eq-slice_cmp other name ∙ not_same _ (λ e. apart ((bytes_eq-Decides other name).0 e))
+other_name other name apart = is_eq-slice_cmp other name ∙ false_from_ne_true _ (λ e. apart ((bytes_eq-Decides other name).0 e))
 
 -- a list of files has the first one's bytes under its name
 first_is : (name bytes : List ℕ) (files : List (List ℕ × List ℕ)) → file_at (files_of ((name, bytes) ∷ files)) name ≡ Some bytes

@@ -1,17 +1,13 @@
-use Rattle.std.proofs.Common.{◌≡◌, ◌∙◌, ◌||◌, Bool, true, false, List, ℕ, arith, refl, codes}
+use Rattle.std.proofs.Common.{◌≡◌, ◌∙◌, ◌||◌, Bool, false, List, ℕ, arith, codes}
 use Rattle.std.specs.Str.{bytes_eq}
 use Rattle.std.proofs.lemmas.Slice.Eq.{bytes_eq-Decides}
+use Rattle.std.proofs.lemmas.Bool.{false_from_ne_true}
 use Rattle.clap.proofs.WalkLemmas.{list_any-map}
 use Rattle.audit_words.proofs.line.is_among.Goals as goal
 
--- a test that can't be true is false
-fails : (b : Bool) → (b ≡ true → ⊥) → b ≡ false
-fails true refuted = absurd (refuted refl)
-fails false refuted = refl
-
 -- texts that differ are not equal
 differ : (a b : List ℕ) → (a ≡ b → ⊥) → bytes_eq a b ≡ false
-differ a b other = fails (bytes_eq a b) (λ same. other ((bytes_eq-Decides a b).0 same))
+differ a b other = false_from_ne_true (bytes_eq a b) (λ same. other ((bytes_eq-Decides a b).0 same))
 
 -- where the first two fail, it is the third
 third : (a b c result : Bool) → a ≡ false → b ≡ false → result ≡ c → result ≡ (a || b || c)
