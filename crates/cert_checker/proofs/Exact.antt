@@ -29,7 +29,7 @@ module _ (ops : List Op) (d k : ℕ) (order : List ℕ) (o : IsOrder ops d k ord
       let high = w.rises in
       omega arith
 
-  no_fault : (fault : OrderFault) → IsOrderFault ops d k order fault → ⊥
+  pub no_fault : (fault : OrderFault) → IsOrderFault ops d k order fault → ⊥
   no_fault (Listing rec) (inl first) = no_stray first.place first.wrong
   no_fault (Listing rec) (inr least) = least.missing (o.each_once.whole rec least.member)
   no_fault (Precedence rec) wrong = no_backwards wrong.backwards.place wrong.backwards.wrong

@@ -7,3 +7,4 @@ pub mod Returning
 pub mod WholeOrders
 pub mod Exact
 pub mod StaleKey
+pub mod ExactKeys
