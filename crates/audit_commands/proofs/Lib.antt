@@ -1,3 +1,10 @@
 pub mod Taking
 pub mod Saying
+pub mod WritingFiles
+pub mod Keeping
+pub mod Refusing
+pub mod Auditing
+pub mod Checking
 pub mod Ending
+pub mod Completing
+pub mod Chains

@@ -4,6 +4,7 @@ use Rattle.std.specs.Prelude.{IfSome}
 use Rattle.std.proofs.lemmas.List.{length-take}
 use Rattle.audit_ports.specs.Shelf.{Shown, KeepsFiles, KeepsCounts, TakesBytes, file_at, Files}
 use Rattle.audit_commands.specs.Steps.{IsTaken}
+use Rattle.audit_commands.proofs.WritingFiles.{counts_kept}
 
 content_more : (bytes piece content : List ℕ) (n : ℕ) → length piece ≡ n → bytes ≡ take (length bytes) content → piece ≡ take n (drop (length bytes) content)
     → bytes ++ piece ≡ take (length (bytes ++ piece)) content
@@ -28,17 +29,9 @@ both (Some files) name P Q f h = go (file_at files name) h where
   go None h = tt
   go (Some x) h = f x h
 
--- counts that were kept twice were kept
-pub counts_kept : (a b c : Shown) → KeepsCounts a b → KeepsCounts b c → KeepsCounts a c
-counts_kept a b c p q = record {
-  read_faults = q.read_faults ∙ p.read_faults;
-  write_faults = q.write_faults ∙ p.write_faults;
-  misses = q.misses ∙ p.misses;
-}
-
-pub taken_more : (name bytes into : List ℕ) (first old new : Shown) (n : ℕ) → length bytes < 2 ^ 32 → n ≤ 65536 → IsTaken name bytes first old → KeepsFiles old new → KeepsCounts old new
+pub taken_more : (name bytes into : List ℕ) (first old new : Shown) (n : ℕ) → length bytes < 2 ^ 32 → n ≤ 65536 → IsTaken name bytes first old → KeepsFiles old new → new.writing ≡ old.writing → KeepsCounts old new
     → IfSome old.reading (TakesBytes into old new n) → IsTaken name (bytes ++ take n into) first new
-taken_more name bytes into first old new n small few t k counts step =
+taken_more name bytes into first old new n small few t k writing counts step =
     let s = rw t.reading at step in
     let within : n ≤ length into = s.within in
     let l : length (take n into) ≡ n = rw length-take (omega arith) in
@@ -46,6 +39,7 @@ taken_more name bytes into first old new n small few t k counts step =
     let piece = rw t.files at s.bytes in
     record {
       files = k.files ∙ t.files;
+      writing = writing ∙ t.writing;
       counts = counts_kept first old new t.counts counts;
       reading = s.place ∙ ap (λ (p : ℕ). Some (record { name = name; place = p })) size;
       told = told_more first.files name bytes (take n into) n l t.told (both first.files name _ _ (λ x h. h.0) piece);

@@ -1,51 +1,91 @@
--- What an audit of a history file is, and what it writes.
-use Rattle.std.specs.Prelude.{◌≡◌, ℕ, ◌≤◌, false, List, Ok, Err}
+-- What the inputs of a command are, and what an audit of a history says.
+use Rattle.std.specs.Prelude.{◌≡◌, ◌⊎◌, ℕ, List, length, Option, Some, None, Ok, Err}
 use Rattle.stale_model.specs.declared.History.{History}
 use Rattle.stale_model.specs.declared.Verdict.{Verdict}
 use Rattle.stale_model.specs.PrintedVerdicts.{ArePrintedVerdicts}
 use Rattle.stale_model.specs.Truth.{EachKeyHas, IsTrueOf}
 use Rattle.stale_model.specs.Shown.{IsShown}
-use Rattle.audit_ports.specs.Shelf.{Shown, Rose}
-use Rattle.audit_ports.specs.Sink.{SinkShown, GainsPrefix, appended}
+use Rattle.audit_ports.specs.Shelf.{Shown}
 use Rattle.history_csv.specs.declared.HistoryFault.{HistoryFault}
-use Rattle.history_csv.specs.Reading.{read_of}
-use Rattle.staleness_report.specs.Report.{report_text}
+use Rattle.history_csv.specs.Reading as history
+use Rattle.cert_text.specs.declared.CertFault.{CertFault}
+use Rattle.cert_text.specs.Reading as certificate
+use Rattle.audit_words.specs.declared.Task.{Task}
+use Rattle.audit_words.specs.declared.Task.TheVariants.{Audit, Check}
 use Rattle.audit_commands.specs.Input.{TakesInput}
 
 -- the greatest length of a history file, in bytes
 abbrev pub history_limit : ℕ
 history_limit = 67108864
 
--- this is the report on a history: its verdicts are true and shown; which orders and records they have is the last part
-pub record Reports (history : History) (text : List ℕ) : Type 0 where
-  pub verdicts : List Verdict
-  pub text_is : text ≡ report_text history verdicts
-  pub truth : EachKeyHas IsTrueOf history.keys verdicts
-  pub shown : EachKeyHas IsShown history.keys verdicts
-  pub printed : ArePrintedVerdicts history.keys verdicts
+-- the greatest length of a certificate file that is read, in bytes
+abbrev pub cert_limit : ℕ
+cert_limit = 268435456
 
--- the history file of this name was taken, and this is the report on the history that its bytes are
-pub record IsReportOf (name : List ℕ) (old new : Shown) (text : List ℕ) : Type 0 where
+-- the history file of this name was taken, and its bytes are this history
+pub record TakesHistory (name : List ℕ) (old new : Shown) (h : History) : Type 0 where
   pub bytes : List ℕ
   pub input : TakesInput history_limit name old new bytes
-  pub history : History
-  pub reads : read_of bytes ≡ Ok history
-  pub reports : Reports history text
+  pub reads : history.read_of bytes ≡ Ok h
 
 -- the history file of this name was taken, and its bytes read as this fault
 pub record IsFaultOf (name : List ℕ) (old new : Shown) (fault : HistoryFault) : Type 0 where
   pub bytes : List ℕ
   pub input : TakesInput history_limit name old new bytes
-  pub reads : read_of bytes ≡ Err fault
+  pub reads : history.read_of bytes ≡ Err fault
 
--- the output gained exactly this text, all of it was handed on, and no call failed
-pub record WritesWhole (text : List ℕ) (old new : SinkShown) : Type 0 where
-  pub written : new.written ≡ appended old.written text
-  pub handed_on : new.pending ≡ false
-  pub faults : new.faults ≡ old.faults
+-- the certificate file of this name was taken, and its bytes are these verdicts, of so many keys
+pub record TakesCert (name : List ℕ) (keys : ℕ) (old new : Shown) (verdicts : List Verdict) : Type 0 where
+  pub bytes : List ℕ
+  pub input : TakesInput cert_limit name old new bytes
+  pub reads : certificate.read_of keys bytes ≡ Ok verdicts
 
--- a call of the output failed, and it gained a prefix of this text
-pub record WritesPart (text : List ℕ) (old new : SinkShown) : Type 0 where
-  pub gains : GainsPrefix text old new
-  pub faults : Rose old.faults new.faults
-  pub keeps : old.faults ≤ new.faults
+-- the certificate file of this name was taken, and its bytes read as this fault, for so many keys
+pub record IsCertFaultOf (name : List ℕ) (keys : ℕ) (old new : Shown) (fault : CertFault) : Type 0 where
+  pub bytes : List ℕ
+  pub input : TakesInput cert_limit name old new bytes
+  pub reads : certificate.read_of keys bytes ≡ Err fault
+
+-- the inputs of a check were taken: the history, and then these verdicts of its keys
+pub record TakesBoth (file cert : List ℕ) (old new : Shown) (h : History) (verdicts : List Verdict) : Type 0 where
+  pub between : Shown
+  pub history : TakesHistory file old between h
+  pub certificate : TakesCert cert (length h.keys) between new verdicts
+
+-- these are the verdicts of an audit: they are true and shown; which orders and records they have is the last part
+pub record AreVerdicts (h : History) (verdicts : List Verdict) : Type 0 where
+  pub truth : EachKeyHas IsTrueOf h.keys verdicts
+  pub shown : EachKeyHas IsShown h.keys verdicts
+  pub printed : ArePrintedVerdicts h.keys verdicts
+
+-- the file with the history of a task
+abbrev pub history_file : Task → List ℕ
+history_file (Audit file cert workers) = file
+history_file (Check file cert) = file
+
+-- the file that a task writes, if it writes one
+abbrev pub output_file : Task → Option (List ℕ)
+output_file (Audit file cert workers) = cert
+output_file (Check file cert) = None
+
+-- an input file, the greatest length that it may have, and what is known of the shelf before it is opened
+pub record Input : Type 0 where
+  pub name : List ℕ
+  pub limit : ℕ
+  pub before : Shown
+
+-- the history is the first input
+abbrev pub history_input : Task → Shown → Input
+history_input task old = record { name = history_file task; limit = history_limit; before = old }
+
+-- the certificate of a check comes after its history, which has no fault
+pub record IsCertInput (task : Task) (old : Shown) (input : Input) : Type 0 where
+  pub file : List ℕ
+  pub task_is : task ≡ Check file input.name
+  pub limit_is : input.limit ≡ cert_limit
+  pub h : History
+  pub history : TakesHistory file old input.before h
+
+-- an input of a task, behind those that have no fault
+abbrev pub IsInput : Task → Shown → Input → Type 0
+IsInput task old input = (input ≡ history_input task old) ⊎ IsCertInput task old input

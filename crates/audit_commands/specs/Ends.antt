@@ -1,17 +1,28 @@
 -- How a call of the program ends: what each status means.
-use Rattle.std.specs.Prelude.{◌≡◌, ◌⊎◌, ℕ, ◌≤◌, nat_lt, if◌then◌else◌, List, Option, Some, None, IsSomeAnd, Result, Ok, Err, length}
+use Rattle.std.specs.Prelude.{◌≡◌, ◌≢◌, ◌⊎◌, ℕ, ◌≤◌, List, Option, Some, None, IsSomeAnd, length}
 use Rattle.stale_model.specs.declared.History.{History}
+use Rattle.stale_model.specs.declared.Verdict.{Verdict}
+use Rattle.stale_model.specs.Truth.{EachKeyHas, IsTrueOf}
+use Rattle.stale_model.specs.Shown.{IsShown}
 use Rattle.history_csv.specs.declared.HistoryFault.{HistoryFault}
-use Rattle.history_csv.specs.Reading.{read_of}
-use Rattle.audit_ports.specs.Shelf.{Shown, Rose, KeepsFiles, KeepsCounts, Misses, FailsReading, file_at}
+use Rattle.cert_text.specs.declared.CertFault.{CertFault}
+use Rattle.cert_text.specs.Certificates.{cert_text}
+use Rattle.cert_checker.specs.declared.Checked.{Checked}
+use Rattle.cert_checker.specs.declared.Checked.TheVariants as checked
+use Rattle.cert_checker.specs.KeyFaults.{IsFirstBad, FindsAll}
+use Rattle.staleness_report.specs.Report.{report_text}
+use Rattle.audit_ports.specs.Shelf.{Shown, Files, KeepsCounts, Misses, FailsReading, WhereTold, file_at}
 use Rattle.audit_ports.specs.Sink.{SinkShown}
+use Rattle.audit_words.specs.declared.Task.{Task}
+use Rattle.audit_words.specs.declared.Task.TheVariants.{Audit, Check}
+use Rattle.audit_words.specs.Tasks.{task_of}
 use Rattle.audit_commands.specs.declared.status.Status.{Status}
 use Rattle.audit_commands.specs.declared.status.Status.TheVariants as status
 use Rattle.audit_commands.specs.Status.{number}
-use Rattle.audit_commands.specs.Words.{history_name}
 use Rattle.audit_commands.specs.Input.{IsTooLong}
-use Rattle.audit_commands.specs.Audit.{history_limit, IsReportOf, IsFaultOf, WritesWhole, WritesPart}
-use Rattle.audit_commands.specs.Lines.{SaysLine, words_line, fault_line, missing_line, too_long_line, read_failed_line, write_failed_line, memory_line}
+use Rattle.audit_commands.specs.Output.{WritesWhole, WritesPart, WritesNamed, WritesNamedPart}
+use Rattle.audit_commands.specs.Audit.{TakesHistory, IsFaultOf, IsCertFaultOf, TakesBoth, AreVerdicts, Input, IsInput, history_file, output_file}
+use Rattle.audit_commands.specs.Lines.{SaysLine, check_line, words_line, fault_line, cert_fault_line, missing_line, too_long_line, read_failed_line, write_failed_line, memory_line}
 
 -- what is known of the outside: of the shelf, of the output and of the error output
 pub record Outside : Type 0 where
@@ -23,78 +34,183 @@ pub record Outside : Type 0 where
 abbrev pub outside : Shown → SinkShown → SinkShown → Outside
 outside shelf out err = record { shelf = shelf; out = out; err = err }
 
--- the files are the same, and no count fell
-pub record KeepsOutside (old new : Outside) : Type 0 where
-  pub files : KeepsFiles old.shelf new.shelf
+-- every file but this one is as before
+abbrev pub KeepsOthers : Option (List ℕ) → Option Files → Option Files → Type 0
+KeepsOthers None old new = new ≡ old
+KeepsOthers (Some name) old new =
+    WhereTold (λ (o n : Files). (other : List ℕ) → other ≢ name → file_at n other ≡ file_at o other) old new
+
+-- the file that the words name for output, if they do
+abbrev pub named_output : Option Task → Option (List ℕ)
+named_output None = None
+named_output (Some task) = output_file task
+
+-- every file but this output is as before, no count fell, and nothing is being written
+pub record KeepsShelf (output : Option (List ℕ)) (old new : Shown) : Type 0 where
+  pub files : KeepsOthers output old.files new.files
+  pub read_faults : old.read_faults ≤ new.read_faults
+  pub write_faults : old.write_faults ≤ new.write_faults
+  pub misses : old.misses ≤ new.misses
+  pub writing : new.writing ≡ None
+
+-- every file but the output that the words name is as before, and no count fell
+pub record KeepsOutside (words : List (List ℕ)) (old new : Outside) : Type 0 where
+  pub shelf : KeepsShelf (named_output (task_of words)) old.shelf new.shelf
   pub out : old.out.faults ≤ new.out.faults
   pub err : old.err.faults ≤ new.err.faults
 
--- refused before any output: the output is as it was, and the error output gained this line
+-- refused before any output: files and output are as they were, and the error output gained this line
 pub record Refuses (line : List ℕ) (old new : Outside) : Type 0 where
+  pub files : new.shelf.files ≡ old.shelf.files
   pub out : new.out ≡ old.out
   pub says : SaysLine line old.err new.err
 
--- done: the output gained exactly the report on the file that the words name, and nothing else was written
+-- the audit of this file: the verdicts of the history in it
+pub record IsAudit (file : List ℕ) (old new : Shown) (h : History) (verdicts : List Verdict) : Type 0 where
+  pub input : TakesHistory file old new h
+  pub are_verdicts : AreVerdicts h verdicts
+
+-- an audit was done: the certificate was written where it is named, then the output gained the report of the same verdicts
+pub record AuditDone (file : List ℕ) (cert : Option (List ℕ)) (old new : Shown) (out out' : SinkShown) : Type 0 where
+  pub taken : Shown
+  pub h : History
+  pub verdicts : List Verdict
+  pub audit : IsAudit file old taken h verdicts
+  pub certificate : WritesNamed cert (cert_text verdicts) taken new
+  pub report : WritesWhole (report_text h verdicts) out out'
+
+-- a check was done: the certificate shows each verdict that it says, so they are true, and the output gained `good`
+pub record CheckDone (file cert : List ℕ) (old new : Shown) (out out' : SinkShown) : Type 0 where
+  pub h : History
+  pub verdicts : List Verdict
+  pub inputs : TakesBoth file cert old new h verdicts
+  pub truth : EachKeyHas IsTrueOf h.keys verdicts
+  pub shown : EachKeyHas IsShown h.keys verdicts
+  pub line : WritesWhole (check_line checked.Good) out out'
+
+-- what a task asks for was done
+abbrev pub IsDone : Task → Shown → Shown → SinkShown → SinkShown → Type 0
+IsDone (Audit file cert workers) old new out out' = AuditDone file cert old new out out'
+IsDone (Check file cert) old new out out' = CheckDone file cert old new out out'
+
+-- done, as the words ask
 pub record EndsDone (words : List (List ℕ)) (old new : Outside) : Type 0 where
-  pub name : List ℕ
-  pub named : history_name words ≡ Some name
-  pub text : List ℕ
-  pub report : IsReportOf name old.shelf new.shelf text
-  pub out : WritesWhole text old.out new.out
+  pub task : Task
+  pub asked : task_of words ≡ Some task
+  pub done : IsDone task old.shelf new.shelf old.out new.out
+  pub err : new.err ≡ old.err
+
+-- some verdict of the certificate isn't shown: the output gained the line on the first one
+pub record CheckFails (file cert : List ℕ) (old new : Shown) (out out' : SinkShown) : Type 0 where
+  pub h : History
+  pub verdicts : List Verdict
+  pub inputs : TakesBoth file cert old new h verdicts
+  pub not_shown : EachKeyHas IsShown h.keys verdicts → ⊥
+  pub key : ℕ
+  pub rule : ℕ
+  pub rec : ℕ
+  pub first : IsFirstBad h.keys verdicts key rule rec
+  pub line : WritesWhole (check_line (checked.Bad key rule rec)) out out'
+
+-- some verdict of the certificate that the words name isn't shown
+pub record EndsNotShown (words : List (List ℕ)) (old new : Outside) : Type 0 where
+  pub file : List ℕ
+  pub cert : List ℕ
+  pub asked : task_of words ≡ Some (Check file cert)
+  pub fails : CheckFails file cert old.shelf new.shelf old.out new.out
   pub err : new.err ≡ old.err
 
 -- the words are refused: nothing was done, and the line says so
 pub record EndsWordsRefused (words : List (List ℕ)) (old new : Outside) : Type 0 where
-  pub none : history_name words ≡ None
+  pub none : task_of words ≡ None
   pub shelf : new.shelf ≡ old.shelf
   pub refuses : Refuses words_line old new
 
 -- the history that the words name is refused by its fault, which the line says
 pub record EndsHistoryRefused (words : List (List ℕ)) (old new : Outside) : Type 0 where
-  pub name : List ℕ
-  pub named : history_name words ≡ Some name
+  pub task : Task
+  pub asked : task_of words ≡ Some task
   pub fault : HistoryFault
-  pub fault_is : IsFaultOf name old.shelf new.shelf fault
+  pub fault_is : IsFaultOf (history_file task) old.shelf new.shelf fault
   pub refuses : IsSomeAnd (fault_line fault) (λ line. Refuses line old new)
 
--- the file that the words and the line name is missing
+-- the certificate that the words name is refused by its fault, which the line says
+pub record EndsCertRefused (words : List (List ℕ)) (old new : Outside) : Type 0 where
+  pub file : List ℕ
+  pub cert : List ℕ
+  pub asked : task_of words ≡ Some (Check file cert)
+  pub taken : Shown
+  pub h : History
+  pub history : TakesHistory file old.shelf taken h
+  pub fault : CertFault
+  pub fault_is : IsCertFaultOf cert (length h.keys) taken new.shelf fault
+  pub refuses : IsSomeAnd (cert_fault_line fault) (λ line. Refuses line old new)
+
+-- an input that the words and the line name is missing, and those before it have no fault
 pub record EndsMissing (words : List (List ℕ)) (old new : Outside) : Type 0 where
-  pub name : List ℕ
-  pub named : history_name words ≡ Some name
-  pub misses : Misses name old.shelf new.shelf
-  pub refuses : Refuses (missing_line name) old new
+  pub task : Task
+  pub asked : task_of words ≡ Some task
+  pub input : Input
+  pub input_is : IsInput task old.shelf input
+  pub misses : Misses input.name input.before new.shelf
+  pub refuses : Refuses (missing_line input.name) old new
 
 -- a read failed
 pub record EndsReadFailed (old new : Outside) : Type 0 where
   pub fails : FailsReading old.shelf new.shelf
   pub refuses : Refuses read_failed_line old new
 
--- a write of the report on the file that the words name failed
+-- a call of writing the named certificate failed, and then no other output was begun; or one of writing the report
+pub record AuditUnwritten (file : List ℕ) (cert : Option (List ℕ)) (old new : Shown) (out out' : SinkShown) : Type 0 where
+  pub taken : Shown
+  pub h : History
+  pub verdicts : List Verdict
+  pub audit : IsAudit file old taken h verdicts
+  pub fails : (WritesNamedPart cert (cert_text verdicts) taken new × (out' ≡ out))
+      ⊎ (WritesNamed cert (cert_text verdicts) taken new × WritesPart (report_text h verdicts) out out')
+
+-- a call of writing the line of a check failed
+pub record CheckUnwritten (file cert : List ℕ) (old new : Shown) (out out' : SinkShown) : Type 0 where
+  pub h : History
+  pub verdicts : List Verdict
+  pub inputs : TakesBoth file cert old new h verdicts
+  pub found : Checked
+  pub finds : FindsAll h.keys verdicts found
+  pub line : WritesPart (check_line found) out out'
+
+-- what a task asks for was made, and not, or not wholly, written
+abbrev pub IsUnwritten : Task → Shown → Shown → SinkShown → SinkShown → Type 0
+IsUnwritten (Audit file cert workers) old new out out' = AuditUnwritten file cert old new out out'
+IsUnwritten (Check file cert) old new out out' = CheckUnwritten file cert old new out out'
+
+-- a write failed, and the line says so
 pub record EndsWriteFailed (words : List (List ℕ)) (old new : Outside) : Type 0 where
-  pub name : List ℕ
-  pub named : history_name words ≡ Some name
-  pub text : List ℕ
-  pub report : IsReportOf name old.shelf new.shelf text
-  pub out : WritesPart text old.out new.out
+  pub task : Task
+  pub asked : task_of words ≡ Some task
+  pub unwritten : IsUnwritten task old.shelf new.shelf old.out new.out
   pub says : SaysLine write_failed_line old.err new.err
 
--- the file that the words and the line name is longer than the limit
+-- an input that the words and the line name is longer than its limit, and those before it have no fault
 pub record EndsTooLong (words : List (List ℕ)) (old new : Outside) : Type 0 where
-  pub name : List ℕ
-  pub named : history_name words ≡ Some name
-  pub too_long : IsTooLong history_limit name old.shelf new.shelf
-  pub refuses : Refuses (too_long_line name) old new
+  pub task : Task
+  pub asked : task_of words ≡ Some task
+  pub input : Input
+  pub input_is : IsInput task old.shelf input
+  pub too_long : IsTooLong input.limit input.name input.before new.shelf
+  pub refuses : Refuses (too_long_line input.name) old new
 
--- memory was wanting: no count of the shelf changed
+-- memory was wanting, before any output: no count of the shelf changed
 pub record EndsOutOfMemory (old new : Outside) : Type 0 where
   pub counts : KeepsCounts old.shelf new.shelf
   pub refuses : Refuses memory_line old new
 
--- what each status means
+-- what a status means
 abbrev pub Ends : List (List ℕ) → Outside → Outside → Status → Type 0
 Ends words old new status.Done = EndsDone words old new
+Ends words old new status.NotShown = EndsNotShown words old new
 Ends words old new status.WordsRefused = EndsWordsRefused words old new
 Ends words old new status.HistoryRefused = EndsHistoryRefused words old new
+Ends words old new status.CertRefused = EndsCertRefused words old new
 Ends words old new status.Missing = EndsMissing words old new
 Ends words old new status.ReadFailed = EndsReadFailed old new
 Ends words old new status.WriteFailed = EndsWriteFailed words old new
@@ -106,31 +222,3 @@ pub record EndsAs (words : List (List ℕ)) (old new : Outside) (answer : ℕ) :
   pub status : Status
   pub number_is : answer ≡ number status
   pub ends : Ends words old new status
-
--- no read failed in the call, and no write
-pub record NothingFailed (old new : Outside) : Type 0 where
-  pub reads : Rose old.shelf.read_faults new.shelf.read_faults → ⊥
-  pub writes : Rose old.out.faults new.out.faults → ⊥
-
--- the shelf tells its files, and the file that the words name has these bytes, or isn't there
-pub record Tells (words : List (List ℕ)) (shelf : Shown) (content : Option (List ℕ)) : Type 0 where
-  pub name : List ℕ
-  pub named : history_name words ≡ Some name
-  pub told : IsSomeAnd shelf.files (λ files. file_at files name ≡ content)
-
--- the status that a history or its fault asks for
-abbrev pub status_of_reading : Result History HistoryFault → Status
-status_of_reading (Ok history) = status.Done
-status_of_reading (Err fault) = status.HistoryRefused
-
--- the status that the content of the history file asks for, where nothing fails and memory is ample
-abbrev pub status_of_content : Option (List ℕ) → Status
-status_of_content None = status.Missing
-status_of_content (Some bytes) =
-    if nat_lt history_limit (length bytes) then status.TooLong else status_of_reading (read_of bytes)
-
--- where files are told and nothing failed, the status is the one that the content asks for, or want of memory
-abbrev pub IsComplete : List (List ℕ) → Outside → Outside → ℕ → Type 0
-IsComplete words old new answer =
-    (content : Option (List ℕ)) → Tells words old.shelf content → NothingFailed old new
-    → (answer ≡ number (status_of_content content)) ⊎ (answer ≡ number status.OutOfMemory)

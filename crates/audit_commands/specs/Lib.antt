@@ -1,8 +1,9 @@
-pub mod Words
 pub mod Status
 pub mod Lines
 pub mod Input
+pub mod Output
 pub mod Audit
 pub mod Ends
+pub mod Complete
 pub mod Steps
 pub mod Refusals

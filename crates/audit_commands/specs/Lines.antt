@@ -1,12 +1,22 @@
--- The line that is written to the error output after a refusal.
+-- The lines of a check, and the line that is written to the error output after a refusal.
 use Rattle.std.specs.Prelude.{◌≡◌, ◌⊎◌, ℕ, ◌≤◌, List, ◌++◌, Option, Some, None, codes}
 use Rattle.std.specs.Fmt.{decimal}
 use Rattle.history_csv.specs.declared.HistoryFault.{HistoryFault}
 use Rattle.history_csv.specs.declared.HistoryFault.TheVariants as fault
 use Rattle.history_csv.specs.Header.{column_name}
+use Rattle.cert_text.specs.declared.CertFault.{CertFault}
+use Rattle.cert_text.specs.declared.CertFault.TheVariants as cert_fault
+use Rattle.cert_checker.specs.declared.Checked.{Checked}
+use Rattle.cert_checker.specs.declared.Checked.TheVariants as checked
 use Rattle.audit_ports.specs.Shelf.{Rose}
 use Rattle.audit_ports.specs.Sink.{SinkShown, GainsPrefix, appended}
 use Rattle.staleness_report.specs.Escaped.{escaped}
+
+-- the line of a check: `good`, or the first key that isn't, its first broken rule, and the record that is named
+abbrev pub check_line : Checked → List ℕ
+check_line checked.Good = codes "good\n"
+check_line (checked.Bad key rule rec) =
+    codes "bad key " ++ decimal key ++ codes " rule " ++ decimal rule ++ codes " record " ++ decimal rec ++ codes "\n"
 
 -- the line on a record at fault
 abbrev pub record_line : ℕ → List ℕ → List ℕ
@@ -26,6 +36,18 @@ fault_line (fault.Backwards rec) = Some (record_line rec (codes "backwards"))
 fault_line (fault.Slack rec) = Some (record_line rec (codes "slack"))
 fault_line fault.Records = Some (codes "history: more than 1000000 records\n")
 fault_line fault.Memory = None
+
+-- the line on a line of a certificate at fault
+abbrev pub cert_line : ℕ → List ℕ → List ℕ
+cert_line number word = codes "certificate line " ++ decimal number ++ codes ": " ++ word ++ codes "\n"
+
+-- the line on a fault of a certificate; want of memory is none, and has no line
+abbrev pub cert_fault_line : CertFault → Option (List ℕ)
+cert_fault_line (cert_fault.Line number) = Some (cert_line number (codes "line"))
+cert_fault_line (cert_fault.Number number) = Some (cert_line number (codes "number"))
+cert_fault_line (cert_fault.Key number) = Some (cert_line number (codes "key"))
+cert_fault_line (cert_fault.Absent key) = Some (codes "certificate: key " ++ decimal key ++ codes " absent\n")
+cert_fault_line cert_fault.Memory = None
 
 -- the line on words that are refused
 abbrev pub words_line : List ℕ

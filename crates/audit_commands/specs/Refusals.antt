@@ -1,18 +1,29 @@
--- Definitions that serve the code alone: the refusals of an audit, what shows each, and what is said of it.
-use Rattle.std.specs.Prelude.{◌≡◌, ◌≢◌, ◌⊎◌, ℕ, List, Some, Ok, Err, Result, OnOk, IfErr}
+-- Definitions that serve the code alone: the refusals of a command, what shows each, and what is said of it.
+use Rattle.std.specs.Prelude.{◌≡◌, ◌≢◌, ◌⊎◌, ⊤, ℕ, ◌≤◌, String, List, length, Option, Some, None, Ok, Err, Result, IfOk, IfErr}
+use Rattle.std.specs.String.{string_bytes}
 use Rattle.stale_model.specs.declared.History.{History}
+use Rattle.stale_model.specs.declared.Verdict.{Verdict}
 use Rattle.history_csv.specs.Header.{IsColumn}
 use Rattle.history_csv.specs.declared.HistoryFault.{HistoryFault}
 use Rattle.history_csv.specs.declared.HistoryFault.TheVariants as history_fault
-use Rattle.audit_ports.specs.Shelf.{Shown, KeepsFiles, KeepsCounts, Misses, FailsReading}
+use Rattle.cert_text.specs.declared.CertFault.{CertFault}
+use Rattle.cert_text.specs.declared.CertFault.TheVariants as cert_fault
+use Rattle.cert_text.specs.Certificates.{cert_text}
+use Rattle.staleness_report.specs.Report.{report_text}
+use Rattle.audit_ports.specs.Shelf.{Shown, KeepsCounts, Misses, FailsReading}
 use Rattle.audit_ports.specs.Sink.{SinkShown}
+use Rattle.audit_words.specs.declared.Task.{Task}
+use Rattle.audit_words.specs.declared.Task.TheVariants.{Audit, Check}
 use Rattle.audit_commands.specs.declared.status.Status.{Status}
 use Rattle.audit_commands.specs.declared.status.Status.TheVariants as status
 use Rattle.audit_commands.specs.declared.refusal.Refusal.{Refusal}
 use Rattle.audit_commands.specs.declared.refusal.Refusal.TheVariants as refusal
 use Rattle.audit_commands.specs.Input.{IsTooLong}
-use Rattle.audit_commands.specs.Audit.{history_limit, IsReportOf, IsFaultOf, WritesWhole, WritesPart}
-use Rattle.audit_commands.specs.Lines.{fault_line, missing_line, too_long_line, read_failed_line, write_failed_line, memory_line, SaysLine}
+use Rattle.audit_commands.specs.Output.{WritesWhole, WritesPart, WritesNamed, WritesNamedPart}
+use Rattle.audit_commands.specs.Audit.{history_limit, cert_limit, TakesHistory, IsFaultOf, IsCertFaultOf, Input, IsInput, history_file, output_file}
+use Rattle.audit_commands.specs.Ends.{KeepsShelf, IsUnwritten}
+use Rattle.audit_commands.specs.Steps.{Performs}
+use Rattle.audit_commands.specs.Lines.{fault_line, cert_fault_line, missing_line, too_long_line, read_failed_line, write_failed_line, memory_line, SaysLine}
 
 -- the refusal that a fault of reading a history is
 abbrev pub refusal_of : HistoryFault → Refusal
@@ -21,18 +32,29 @@ refusal_of other = refusal.History other
 
 -- the history, or the refusal that its fault is
 abbrev pub ReadsAs : Result History HistoryFault → Result History Refusal → Type 0
-ReadsAs (Ok history) result = result ≡ Ok history
+ReadsAs (Ok h) result = result ≡ Ok h
 ReadsAs (Err fault) result = result ≡ Err (refusal_of fault)
+
+-- the refusal that a fault of reading a certificate is
+abbrev pub cert_refusal_of : CertFault → Refusal
+cert_refusal_of cert_fault.Memory = refusal.Memory
+cert_refusal_of other = refusal.Cert other
+
+-- the verdicts, or the refusal that their fault is
+abbrev pub CertReadsAs : Result (List Verdict) CertFault → Result (List Verdict) Refusal → Type 0
+CertReadsAs (Ok verdicts) result = result ≡ Ok verdicts
+CertReadsAs (Err fault) result = result ≡ Err (cert_refusal_of fault)
 
 -- a fault that has a line: it is no want of memory, and a column that it names is one of a history
 pub record HasLine (fault : HistoryFault) : Type 0 where
   pub no_memory : fault ≢ history_fault.Memory
   pub column : (number : ℕ) → fault ≡ history_fault.Column number → IsColumn number
 
--- a fault that the file of this name has
-pub record ShowsFault (name : List ℕ) (old new : Shown) (fault : HistoryFault) : Type 0 where
-  pub fault_is : IsFaultOf name old new fault
-  pub has_line : HasLine fault
+-- the refusal has a line
+abbrev pub CanBeSaid : Refusal → Type 0
+CanBeSaid (refusal.History fault) = HasLine fault
+CanBeSaid (refusal.Cert fault) = fault ≢ cert_fault.Memory
+CanBeSaid _ = ⊤
 
 -- the file of this name is missing, and this is the line on it
 pub record ShowsMissing (name : List ℕ) (old new : Shown) (line : List ℕ) : Type 0 where
@@ -40,56 +62,115 @@ pub record ShowsMissing (name : List ℕ) (old new : Shown) (line : List ℕ) : 
   pub line_is : line ≡ missing_line name
 
 -- the file of this name is too long, and this is the line on it
-pub record ShowsTooLong (name : List ℕ) (old new : Shown) (line : List ℕ) : Type 0 where
-  pub too_long : IsTooLong history_limit name old new
+pub record ShowsTooLong (limit : ℕ) (name : List ℕ) (old new : Shown) (line : List ℕ) : Type 0 where
+  pub too_long : IsTooLong limit name old new
   pub line_is : line ≡ too_long_line name
 
--- what the shelf shows of a refusal that comes before any output, in an audit of the file of this name
-abbrev pub Shows : List ℕ → Shown → Shown → Refusal → Type 0
-Shows name old new (refusal.History fault) = ShowsFault name old new fault
-Shows name old new (refusal.Missing line) = ShowsMissing name old new line
-Shows name old new refusal.ReadFailed = FailsReading old new
-Shows name old new refusal.WriteFailed = ⊥
-Shows name old new (refusal.TooLong line) = ShowsTooLong name old new line
-Shows name old new refusal.Memory = KeepsCounts old new
+-- what shows a refusal of taking the input file of this name
+abbrev pub InputShows : ℕ → List ℕ → Shown → Shown → Refusal → Type 0
+InputShows limit name old new (refusal.Missing line) = ShowsMissing name old new line
+InputShows limit name old new refusal.ReadFailed = FailsReading old new
+InputShows limit name old new (refusal.TooLong line) = ShowsTooLong limit name old new line
+InputShows limit name old new refusal.Memory = KeepsCounts old new
+InputShows limit name old new _ = ⊥
 
--- the report on the file of this name was not, or not wholly, written
-pub record FailsWriting (name : List ℕ) (old_shelf new_shelf : Shown) (old_out new_out : SinkShown) : Type 0 where
-  pub text : List ℕ
-  pub report : IsReportOf name old_shelf new_shelf text
-  pub out : WritesPart text old_out new_out
+-- what shows a refusal of the history in the file of this name
+abbrev pub HistoryShows : List ℕ → Shown → Shown → Refusal → Type 0
+HistoryShows name old new (refusal.History fault) = IsFaultOf name old new fault × HasLine fault
+HistoryShows name old new other = InputShows history_limit name old new other
 
--- the report on the file of this name was written
-pub record WritesReport (name : List ℕ) (old_shelf new_shelf : Shown) (old_out new_out : SinkShown) : Type 0 where
-  pub text : List ℕ
-  pub report : IsReportOf name old_shelf new_shelf text
-  pub out : WritesWhole text old_out new_out
+-- what shows a refusal of the certificate in the file of this name
+abbrev pub CertShows : List ℕ → ℕ → Shown → Shown → Refusal → Type 0
+CertShows name keys old new (refusal.Cert fault) = IsCertFaultOf name keys old new fault × (fault ≢ cert_fault.Memory)
+CertShows name keys old new other = InputShows cert_limit name old new other
 
--- what shows a refusal of an audit of the file of this name
-abbrev pub IsRefused : List ℕ → Shown → Shown → SinkShown → SinkShown → Refusal → Type 0
-IsRefused name old_shelf new_shelf old_out new_out refusal.WriteFailed = FailsWriting name old_shelf new_shelf old_out new_out
-IsRefused name old_shelf new_shelf old_out new_out other = Shows name old_shelf new_shelf other × (new_out ≡ old_out)
+-- a check's certificate has this fault, and its history has none
+pub record ShowsCertFault (task : Task) (old new : Shown) (fault : CertFault) : Type 0 where
+  pub file : List ℕ
+  pub cert : List ℕ
+  pub task_is : task ≡ Check file cert
+  pub taken : Shown
+  pub h : History
+  pub history : TakesHistory file old taken h
+  pub fault_is : IsCertFaultOf cert (length h.keys) taken new fault
+  pub no_memory : fault ≢ cert_fault.Memory
 
--- how an audit of the file of this name ends
-pub record AuditEnds {T : Type 0} (name : List ℕ) (old_shelf new_shelf : Shown) (old_out new_out : SinkShown) (result : Result T Refusal) : Type 0 where
-  pub files : KeepsFiles old_shelf new_shelf
-  pub done : OnOk result (WritesReport name old_shelf new_shelf old_out new_out)
-  pub refused : IfErr result (IsRefused name old_shelf new_shelf old_out new_out)
+-- an input of the task, and what shows that it is refused
+pub record ShowsInput (Says : Input → Type 0) (task : Task) (old : Shown) : Type 0 where
+  pub input : Input
+  pub input_is : IsInput task old input
+  pub says : Says input
+
+-- what shows a refusal of a task that comes before any output
+abbrev pub Shows : Task → Shown → Shown → Refusal → Type 0
+Shows task old new (refusal.History fault) = IsFaultOf (history_file task) old new fault × HasLine fault
+Shows task old new (refusal.Cert fault) = ShowsCertFault task old new fault
+Shows task old new (refusal.Missing line) = ShowsInput (λ input. ShowsMissing input.name input.before new line) task old
+Shows task old new refusal.ReadFailed = FailsReading old new
+Shows task old new refusal.WriteFailed = ⊥
+Shows task old new (refusal.TooLong line) = ShowsInput (λ input. ShowsTooLong input.limit input.name input.before new line) task old
+Shows task old new refusal.Memory = KeepsCounts old new
+
+-- a refusal before any output: it is shown, and files and output are as they were
+pub record RefusedBefore (task : Task) (old new : Shown) (out out' : SinkShown) (r : Refusal) : Type 0 where
+  pub shows : Shows task old new r
+  pub files : new.files ≡ old.files
+  pub same : out' ≡ out
+
+-- what shows a refusal of a task
+abbrev pub IsRefused : Task → Shown → Shown → SinkShown → SinkShown → Refusal → Type 0
+IsRefused task old new out out' refusal.WriteFailed = IsUnwritten task old new out out'
+IsRefused task old new out out' other = RefusedBefore task old new out out' other
+
+-- the number of workers of a task is 1 to 64
+abbrev pub HasWorkers : Task → Type 0
+HasWorkers (Audit file cert workers) = (1 ≤ workers) × (workers ≤ 64)
+HasWorkers (Check file cert) = ⊤
+
+-- how a task ends
+pub record TaskEnds (task : Task) (old new : Shown) (out out' : SinkShown) (result : Result Status Refusal) : Type 0 where
+  pub keeps : KeepsShelf (output_file task) old new
+  pub faults : out.faults ≤ out'.faults
+  pub done : IfOk result (Performs task old new out out')
+  pub refused : IfErr result (IsRefused task old new out out')
+
+-- how the certificate was written, where it is named
+abbrev pub Certifies : Option (List ℕ) → List Verdict → Shown → Shown → Result Unit Refusal → Type 0
+Certifies cert verdicts old new (Ok v) = WritesNamed cert (cert_text verdicts) old new
+Certifies cert verdicts old new (Err refusal.WriteFailed) = WritesNamedPart cert (cert_text verdicts) old new
+Certifies cert verdicts old new (Err refusal.Memory) = new ≡ old
+Certifies cert verdicts old new (Err _) = ⊥
+
+-- how the outputs of an audit were written
+abbrev pub WritesAudit : Option (List ℕ) → History → List Verdict → Shown → Shown → SinkShown → SinkShown → Result Unit Refusal → Type 0
+WritesAudit cert h verdicts old new out out' (Ok v) =
+    WritesNamed cert (cert_text verdicts) old new × WritesWhole (report_text h verdicts) out out'
+WritesAudit cert h verdicts old new out out' (Err refusal.WriteFailed) =
+    (WritesNamedPart cert (cert_text verdicts) old new × (out' ≡ out))
+    ⊎ (WritesNamed cert (cert_text verdicts) old new × WritesPart (report_text h verdicts) out out')
+WritesAudit cert h verdicts old new out out' (Err refusal.Memory) = (new ≡ old) × (out' ≡ out)
+WritesAudit cert h verdicts old new out out' (Err _) = ⊥
 
 -- a call answered with this status, after this line
 pub record Says (status : Status) (line : List ℕ) (result : Status) (old new : SinkShown) : Type 0 where
   pub status_is : result ≡ status
   pub says : SaysLine line old new
 
--- a fault of a history is answered with its line and status, or as want of memory
-abbrev pub SaysFault : HistoryFault → Status → SinkShown → SinkShown → Type 0
-SaysFault fault result old new =
-    ((line : List ℕ) × (fault_line fault ≡ Some line) × Says status.HistoryRefused line result old new)
+-- the line that was made is said with this status, or there was no memory for it
+abbrev pub SaysLineOf : {E : Type 0} → Result String E → Status → Status → SinkShown → SinkShown → Type 0
+SaysLineOf (Ok line) status_is result old new = Says status_is (string_bytes line) result old new
+SaysLineOf (Err e) status_is result old new = Says status.OutOfMemory memory_line result old new
+
+-- a fault with this line is answered with it and this status, or as want of memory
+abbrev pub SaysFault : Option (List ℕ) → Status → Status → SinkShown → SinkShown → Type 0
+SaysFault fault_says refused result old new =
+    ((line : List ℕ) × (fault_says ≡ Some line) × Says refused line result old new)
     ⊎ Says status.OutOfMemory memory_line result old new
 
 -- how a refusal is answered: by its status after its line
 abbrev pub Answers : Refusal → Status → SinkShown → SinkShown → Type 0
-Answers (refusal.History fault) result old new = SaysFault fault result old new
+Answers (refusal.History fault) result old new = SaysFault (fault_line fault) status.HistoryRefused result old new
+Answers (refusal.Cert fault) result old new = SaysFault (cert_fault_line fault) status.CertRefused result old new
 Answers (refusal.Missing line) result old new = Says status.Missing line result old new
 Answers refusal.ReadFailed result old new = Says status.ReadFailed read_failed_line result old new
 Answers refusal.WriteFailed result old new = Says status.WriteFailed write_failed_line result old new

@@ -1,36 +1,69 @@
--- Definitions that serve the code alone: the steps of an audit.
-use Rattle.std.specs.Prelude.{◌≡◌, ℕ, List, length, take, Some, IfSome, IsSome, Ok, Result, OnOk, OnErr}
+-- Definitions that serve the code alone: the steps of a command.
+use Rattle.std.specs.Prelude.{◌≡◌, ℕ, List, length, take, Option, Some, IfSome, IsSome, Result, OnOk, OnErr}
 use Rattle.stale_model.specs.declared.History.{History}
-use Rattle.audit_ports.specs.Shelf.{Shown, KeepsCounts, file_at}
+use Rattle.stale_model.specs.declared.Verdict.{Verdict}
+use Rattle.audit_ports.specs.Shelf.{Shown, KeepsFiles, KeepsCounts, file_at}
 use Rattle.audit_ports.specs.Sink.{SinkShown}
-use Rattle.history_csv.specs.Reading.{read_of}
 use Rattle.audit_ports.specs.declared.OpenFault.{OpenFault}
 use Rattle.audit_ports.specs.declared.OpenFault.TheVariants as opening
+use Rattle.stale_model.specs.Valid.{IsValidHistory}
+use Rattle.cert_checker.specs.declared.Checked.{Checked}
+use Rattle.cert_checker.specs.declared.Checked.TheVariants as checked
+use Rattle.cert_checker.specs.KeyFaults.{FindsAll}
+use Rattle.audit_words.specs.declared.Task.{Task}
+use Rattle.audit_words.specs.declared.Task.TheVariants.{Audit, Check}
 use Rattle.audit_commands.specs.declared.input.TakeFault.{TakeFault}
 use Rattle.audit_commands.specs.declared.input.TakeFault.TheVariants as taking
-use Rattle.audit_commands.specs.Input.{TakesInput}
-use Rattle.audit_commands.specs.Audit.{history_limit, WritesWhole, WritesPart}
+use Rattle.audit_commands.specs.declared.status.Status.{Status}
+use Rattle.audit_commands.specs.declared.status.Status.TheVariants as status
+use Rattle.audit_commands.specs.Output.{WritesWhole, WritesPart, WritesFile, WritesFilePart, WritesNamed}
+use Rattle.audit_commands.specs.Audit.{TakesBoth}
+use Rattle.audit_commands.specs.Ends.{IsDone, CheckFails}
 
 -- the fault of taking that a fault of opening is
 abbrev pub take_fault_of : OpenFault → TakeFault
 take_fault_of opening.Missing = taking.Missing
 take_fault_of opening.Failed = taking.Failed
 
+-- files and what is being written are the same, and no count fell
+pub record OnlyReads (old new : Shown) : Type 0 where
+  pub keeps : KeepsFiles old new
+  pub writing : new.writing ≡ old.writing
+
 -- these bytes were taken so far of the open file of this name, and no count changed
 pub record IsTaken (name : List ℕ) (bytes : List ℕ) (old new : Shown) : Type 0 where
   pub files : new.files ≡ old.files
+  pub writing : new.writing ≡ old.writing
   pub counts : KeepsCounts old new
   pub reading : new.reading ≡ Some (record { name = name; place = length bytes })
   pub told : IfSome old.files (λ files. IfSome (file_at files name) (λ content. bytes ≡ take (length bytes) content))
   pub there : IfSome old.files (λ files. IsSome (file_at files name))
 
--- the history file of this name was taken, and its bytes are this history
-pub record TakesHistory (name : List ℕ) (old new : Shown) (history : History) : Type 0 where
-  pub bytes : List ℕ
-  pub input : TakesInput history_limit name old new bytes
-  pub reads : read_of bytes ≡ Ok history
-
 -- an output gained this text and handed it on, or one of its calls failed
 pub record Prints {T E : Type 0} (text : List ℕ) (old : SinkShown) (result : Result T E) (new : SinkShown) : Type 0 where
   pub ok : OnOk result (WritesWhole text old new)
   pub refused : OnErr result (WritesPart text old new)
+
+-- a file was written whole, or one of the calls failed
+pub record WritesOut {T E : Type 0} (name text : List ℕ) (old : Shown) (result : Result T E) (new : Shown) : Type 0 where
+  pub ok : OnOk result (WritesFile name text old new)
+  pub refused : OnErr result (WritesFilePart name text old new)
+
+-- both inputs of a check were taken, and this is found of the verdicts
+pub record FindsBoth (file cert : List ℕ) (old new : Shown) (found : Checked) : Type 0 where
+  pub h : History
+  pub verdicts : List Verdict
+  pub inputs : TakesBoth file cert old new h verdicts
+  pub valid : IsValidHistory h
+  pub finds : FindsAll h.keys verdicts found
+
+-- the status of what was found
+abbrev pub status_of_check : Checked → Status
+status_of_check checked.Good = status.Done
+status_of_check (checked.Bad key rule rec) = status.NotShown
+
+-- what was done of a task, by the status
+abbrev pub Performs : Task → Shown → Shown → SinkShown → SinkShown → Status → Type 0
+Performs task old new out out' status.Done = IsDone task old new out out'
+Performs (Check file cert) old new out out' status.NotShown = CheckFails file cert old new out out'
+Performs task old new out out' _ = ⊥

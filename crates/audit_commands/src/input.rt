@@ -1,11 +1,15 @@
 //! Takes the bytes of input files.
 
 ghost use Rattle.std.specs.Prelude.{◌≡◌, ◌+◌, ◌^◌, ◌<◌, [], OnOk, IsErrOf, vec_len, vec_capacity};
-ghost use Rattle.audit_ports.specs.Shelf.{KeepsFiles, KeepsCounts, Misses, FailsReading};
+ghost use Rattle.std.specs.Prelude.{IfOk, IfErr};
+ghost use Rattle.audit_ports.specs.Shelf.{KeepsCounts, Misses, FailsReading};
 ghost use Rattle.audit_commands.specs.Input.{TakesInput, IsTooLong};
+ghost use Rattle.audit_commands.specs.Steps.{OnlyReads};
+ghost use Rattle.audit_commands.specs.Refusals.{InputShows};
 
+use crate::refusal::{Refusal, name_line};
 use audit_ports::{Failed, OpenFault, Shelf};
-use std::alloc::AllocError;
+use std::alloc::{AllocError, Global};
 
 /// How many bytes are read at once.
 const PIECE: usize = 65536;
@@ -65,7 +69,7 @@ pub(crate) fn take_file<S: Shelf>(
 ) -> Result<(), TakeFault>
     requires limit { limit < 2 ^ 32 }
     requires empty { bytes.old.items ≡ [] }
-    ensures keeps { KeepsFiles (S.shown shelf.old) (S.shown shelf.new) }
+    ensures keeps { OnlyReads (S.shown shelf.old) (S.shown shelf.new) }
     ensures ok { OnOk result (TakesInput limit name.now
         (S.shown shelf.old) (S.shown shelf.new) bytes.new.items) }
     ensures missing { IsErrOf result TakeFault.Missing →
@@ -94,4 +98,29 @@ pub(crate) fn take_file<S: Shelf>(
         }
     }
     unreachable!()
+}
+
+/// The bytes of the input file of this name, at most so many. The line on a missing file is made first, so that a miss
+/// is said whatever memory is left.
+pub(crate) fn take_input<S: Shelf>(
+    alloc: Global,
+    shelf: &mut S,
+    name: &[u8],
+    limit: usize,
+) -> Result<Vec<u8>, Refusal>
+    requires { limit < 2 ^ 32 }
+    ensures keeps { OnlyReads (S.shown shelf.old) (S.shown shelf.new) }
+    ensures ok { IfOk result (λ bytes.
+        TakesInput limit name.now (S.shown shelf.old) (S.shown shelf.new) bytes.items) }
+    ensures err { IfErr result (InputShows limit name.now (S.shown shelf.old) (S.shown shelf.new)) }
+{
+    let missing = name_line(alloc, "missing: ", name)?;
+    let mut bytes = Vec::new(alloc);
+    match take_file(shelf, name, limit, &mut bytes) {
+        Ok(()) => Ok(bytes),
+        Err(TakeFault::Missing) => Err(Refusal::Missing(missing)),
+        Err(TakeFault::Failed) => Err(Refusal::ReadFailed),
+        Err(TakeFault::TooLong) => Err(Refusal::TooLong(name_line(alloc, "too long: ", name)?)),
+        Err(TakeFault::Memory) => Err(Refusal::Memory),
+    }
 }

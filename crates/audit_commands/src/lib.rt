@@ -1,45 +1,82 @@
 //! The commands of the auditor, over the traits of the outside.
 #![tactic(auto)]
 
-ghost use Rattle.std.specs.Prelude.{◌≡◌, ◌↔◌, None};
-ghost use Rattle.audit_commands.specs.Words.{history_name};
+ghost use Rattle.std.specs.Prelude.{◌≡◌, ◌⊎◌, None};
+ghost use Rattle.audit_words.specs.Tasks.{task_of};
 ghost use Rattle.audit_commands.specs.Status.{number};
 ghost use Rattle.audit_commands.specs.Lines.{memory_line, SaysLine};
-ghost use Rattle.audit_commands.specs.Ends.{outside, KeepsOutside, EndsAs, IsComplete};
+ghost use Rattle.audit_commands.specs.Ends.{outside, KeepsOutside, EndsAs};
+ghost use Rattle.audit_commands.specs.Complete.{IsComplete};
+ghost use Rattle.audit_commands.specs.Refusals.{HasWorkers, TaskEnds};
 
 mod audit;
+mod certificate;
+mod check;
+mod history;
 mod input;
+mod output;
 mod refusal;
 mod status;
-mod words;
 
 use crate::audit::audit;
-use crate::refusal::{end, end_without_memory, refuse};
-use crate::words::history_name;
+use crate::check::check;
+use crate::refusal::{Refusal, end, end_without_memory, refuse};
 use audit_ports::{Gate, Shelf, Sink};
+use audit_words::{Task, Word, task_of};
+use stale_model::Memory;
 pub use status::Status;
 use std::alloc::Global;
 use std::thread::Threads;
-pub use words::Word;
 
-/// Does what the words of a command line ask for, and gives the number of the status to end with. The words are
-/// `audit FILE`: the history in FILE is judged, and the report on it is written to `out`.
+// Does what a task asks for.
+fn perform<R: Threads + Sync, S: Shelf, O: Sink, G: Gate>(
+    rt: &R,
+    alloc: Global,
+    task: &Task,
+    shelf: &mut S,
+    out: &mut O,
+    gate: &G,
+) -> Result<Status, Refusal>
+    requires workers { HasWorkers task.now }
+    requires writing { (S.shown shelf.old).writing ≡ None }
+    ensures { TaskEnds task.now (S.shown shelf.old) (S.shown shelf.new)
+        (O.shown out.old) (O.shown out.new) result }
+{
+    match task {
+        Task::Audit {
+            file,
+            cert,
+            workers,
+        } => audit(rt, alloc, file, cert, *workers, shelf, out, gate),
+        Task::Check { file, cert } => check(alloc, file, cert, shelf, out),
+    }
+}
+
+/// Does what the words of a command line ask for, and gives the number of the status to end with.
 ///
-/// Files are read from `shelf`, at most 67,108,864 bytes of a history. The gate is passed round each
-/// judgement. After a refusal one line is written to `err`, which says why.
+/// - `audit FILE [--cert OUT] [--workers N]`: the history in FILE is judged by N workers (1 to 64, 1 where it is not
+///   said), the certificate is written to OUT, and then the report to `out`.
+/// - `check FILE CERT`: the certificate in CERT is checked against the history in FILE, and `good` or the first key that
+///   isn't is written to `out`.
+///
+/// Files are read from `shelf`, at most 67,108,864 bytes of a history and 268,435,456 of a certificate. It must not be
+/// writing a file. All text is made before the first output: OUT, what it held is lost, and then `out`. The gate is
+/// passed round each judgement. After a refusal one line is written to `err`, which says why.
 ///
 /// # Statuses
-/// - 0: done. `out` gained the report and was flushed, and nothing else was written.
+/// - 0: done. What was asked for was written and handed on, and nothing else.
+/// - 1: `check` alone: some verdict of the certificate isn't shown, and `out` gained the line on the first one.
 /// - 2: the words are others. Nothing was opened.
-/// - 3: the file is no history; the line names its fault.
+/// - 3: FILE is no history; the line names its fault.
+/// - 4: CERT is no certificate of this history; the line names its fault.
 /// - 5: there is no such file; the line names it.
 /// - 6: a read failed.
-/// - 7: a write or the flush of the report failed. `out` gained a part of it, from nothing to all.
-/// - 8: the file is longer than the limit; the line names it.
+/// - 7: a write failed. OUT is as it was, or a part of its text; `out` gained a part of its own, from nothing to all.
+/// - 8: the file is longer than its limit; the line names it.
 /// - 10: want of memory.
 ///
-/// After 2, 3, 5, 6, 8 and 10 `out` is as it was. Only the count of the failure that a status names rises, and that
-/// of `err`: a failed write to `err` changes no status.
+/// After 2 to 6, 8 and 10 no file has changed, and `out` is as it was. Only the count of the failure that a status
+/// names rises, and that of `err`: a failed write to `err` changes no status.
 pub fn run_offline<R: Threads + Sync, S: Shelf, O: Sink, E: Sink, G: Gate>(
     rt: &R,
     alloc: Global,
@@ -49,22 +86,26 @@ pub fn run_offline<R: Threads + Sync, S: Shelf, O: Sink, E: Sink, G: Gate>(
     err: &mut E,
     gate: &G,
 ) -> u8
+    requires { (S.shown shelf.old).writing ≡ None }
     ensures ends { EndsAs words.now
         (outside (S.shown shelf.old) (O.shown out.old) (E.shown err.old))
         (outside (S.shown shelf.new) (O.shown out.new) (E.shown err.new)) result }
-    ensures words { (result ≡ number Status.WordsRefused) ↔ (history_name words.now ≡ None) }
-    ensures keeps { KeepsOutside
+    ensures words { task_of words.now ≡ None
+        → (result ≡ number Status.WordsRefused) ⊎ (result ≡ number Status.OutOfMemory) }
+    ensures keeps { KeepsOutside words.now
         (outside (S.shown shelf.old) (O.shown out.old) (E.shown err.old))
         (outside (S.shown shelf.new) (O.shown out.new) (E.shown err.new)) }
     ensures complete { IsComplete words.now
         (outside (S.shown shelf.old) (O.shown out.old) (E.shown err.old))
         (outside (S.shown shelf.new) (O.shown out.new) (E.shown err.new)) result }
 {
-    let Some(name) = history_name(words) else {
-        return end(err, b"words refused\n", Status::WordsRefused).number();
+    let task = match task_of(alloc, words) {
+        Ok(Some(task)) => task,
+        Ok(None) => return end(err, b"words refused\n", Status::WordsRefused).number(),
+        Err(Memory) => return end_without_memory(err).number(),
     };
-    match audit(rt, alloc, name, shelf, out, gate) {
-        Ok(()) => Status::Done.number(),
+    match perform(rt, alloc, &task, shelf, out, gate) {
+        Ok(status) => status.number(),
         Err(refusal) => refuse(alloc, refusal, err).number(),
     }
 }

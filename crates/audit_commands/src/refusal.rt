@@ -1,26 +1,31 @@
-//! Why an audit is refused, with the line and the status of each refusal.
+//! Why a command is refused, with the line and the status of each refusal.
 
 ghost use Rattle.std.specs.Prelude.{◌≡◌, ◌++◌, Some, IfOk, codes};
 ghost use Rattle.std.specs.String.{string_bytes};
 ghost use Rattle.history_csv.specs.Header.{IsColumn};
+ghost use Rattle.std.specs.Prelude.{◌≢◌};
 ghost use Rattle.history_csv.specs.declared.HistoryFault.{HistoryFault};
-ghost use Rattle.audit_commands.specs.Lines.{record_line, fault_line, memory_line};
-ghost use Rattle.audit_commands.specs.Refusals.{HasLine, Says, SaysFault, Answers};
+ghost use Rattle.cert_text.specs.declared.CertFault.{CertFault};
+ghost use Rattle.audit_commands.specs.Lines.{record_line, fault_line, cert_line, cert_fault_line, memory_line};
+ghost use Rattle.audit_commands.specs.Refusals.{HasLine, CanBeSaid, Says, SaysLineOf, Answers};
 ghost use Rattle.audit_commands.specs.Status.{number};
 ghost use Rattle.staleness_report.specs.Escaped.{escaped};
 
 use crate::status::Status;
-use audit_ports::Sink;
+use audit_ports::{Failed, Sink};
+use cert_text::CertFault;
 use history_csv::{HistoryFault, column_name};
 use stale_model::{Bytes, Memory};
 use staleness_report::escape;
 use std::alloc::{AllocError, Global};
 
-/// Why an audit was refused.
+/// Why a command was refused.
 #[derive(Drop, Debug)]
 pub(crate) enum Refusal {
     /// The history has this fault, which is no want of memory.
     History(HistoryFault),
+    /// The certificate has this fault, which is no want of memory.
+    Cert(CertFault),
     /// There is no such file. This is the line that says so.
     Missing(Bytes),
     ReadFailed,
@@ -41,6 +46,43 @@ impl From<HistoryFault> for Refusal {
             HistoryFault::Memory => Refusal::Memory,
             fault => Refusal::History(fault),
         }
+    }
+}
+
+impl From<CertFault> for Refusal {
+    ghost use Rattle.std.specs.Prelude.{◌≡◌};
+    ghost use Rattle.audit_commands.specs.Refusals.{cert_refusal_of};
+
+    ghost from_gives = { λ fault refusal. refusal ≡ cert_refusal_of fault };
+
+    fn from(fault: CertFault) -> Refusal {
+        match fault {
+            CertFault::Memory => Refusal::Memory,
+            fault => Refusal::Cert(fault),
+        }
+    }
+}
+
+impl From<Failed> for Refusal {
+    ghost use Rattle.std.specs.Prelude.{◌≡◌};
+    ghost use Rattle.audit_commands.specs.declared.refusal.Refusal.{Refusal};
+
+    ghost from_gives = { λ _ refusal. refusal ≡ Refusal.WriteFailed };
+
+    // Where reading fails, the input says so: what is converted comes from writing.
+    fn from(_failed: Failed) -> Refusal {
+        Refusal::WriteFailed
+    }
+}
+
+impl From<AllocError> for Refusal {
+    ghost use Rattle.std.specs.Prelude.{◌≡◌};
+    ghost use Rattle.audit_commands.specs.declared.refusal.Refusal.{Refusal};
+
+    ghost from_gives = { λ _ refusal. refusal ≡ Refusal.Memory };
+
+    fn from(_error: AllocError) -> Refusal {
+        Refusal::Memory
     }
 }
 
@@ -100,6 +142,43 @@ fn fault_line(alloc: Global, fault: HistoryFault) -> Result<String, AllocError>
     }
 }
 
+// The line on a line of a certificate at fault.
+fn cert_line(alloc: Global, number: u32, word: &str) -> Result<String, AllocError>
+    ensures { IfOk result (λ line. string_bytes line ≡ cert_line number word.now) }
+{
+    let mut line = String::from_str(alloc, "certificate line ")?;
+    write!(line, "{number}")?;
+    line.push_str(": ")?;
+    line.push_str(word)?;
+    line.push_str("\n")?;
+    Ok(line)
+}
+
+// The line on a key that a certificate leaves out.
+fn absent_line(alloc: Global, key: u32) -> Result<String, AllocError>
+    ensures { IfOk result (λ line.
+        Some (string_bytes line) ≡ cert_fault_line (CertFault.Absent key)) }
+{
+    let mut line = String::from_str(alloc, "certificate: key ")?;
+    write!(line, "{key}")?;
+    line.push_str(" absent\n")?;
+    Ok(line)
+}
+
+// The line on a fault of a certificate.
+fn cert_fault_line(alloc: Global, fault: CertFault) -> Result<String, AllocError>
+    requires { fault ≢ CertFault.Memory }
+    ensures { IfOk result (λ line. cert_fault_line fault ≡ Some (string_bytes line)) }
+{
+    match fault {
+        CertFault::Line { line } => cert_line(alloc, line, "line"),
+        CertFault::Number { line } => cert_line(alloc, line, "number"),
+        CertFault::Key { line } => cert_line(alloc, line, "key"),
+        CertFault::Absent { key } => absent_line(alloc, key),
+        CertFault::Memory => unreachable!(),
+    }
+}
+
 // A label, a name and the end of the line.
 fn name_line_of(alloc: Global, label: &str, name: &[u8]) -> Result<Vec<u8>, AllocError>
     ensures { IfOk result (λ line. line.items ≡ label.now ++ name.now ++ codes "\n") }
@@ -136,24 +215,28 @@ pub(crate) fn end_without_memory<E: Sink>(err: &mut E) -> Status
     end(err, b"out of memory\n", Status::OutOfMemory)
 }
 
-// Says which fault a history has, and gives the status. The line takes memory.
-fn end_by_fault<E: Sink>(alloc: Global, fault: HistoryFault, err: &mut E) -> Status
-    requires { HasLine fault }
-    ensures { SaysFault fault result (E.shown err.old) (E.shown err.new) }
+// Says which fault an input has, by its line, if there was memory for it, and gives the status.
+fn end_by_fault<E: Sink>(line: Result<String, AllocError>, status: Status, err: &mut E) -> Status
+    ensures { SaysLineOf line status result (E.shown err.old) (E.shown err.new) }
 {
-    match fault_line(alloc, fault) {
-        Ok(line) => end(err, line.as_bytes(), Status::HistoryRefused),
+    match line {
+        Ok(line) => end(err, line.as_bytes(), status),
         Err(_) => end_without_memory(err),
     }
 }
 
 /// Writes the line of a refusal, and gives its status.
 pub(crate) fn refuse<E: Sink>(alloc: Global, refusal: Refusal, err: &mut E) -> Status
-    requires { (fault : HistoryFault) → refusal ≡ Refusal.History fault → HasLine fault }
+    requires { CanBeSaid refusal }
     ensures { Answers refusal result (E.shown err.old) (E.shown err.new) }
 {
     match refusal {
-        Refusal::History(fault) => end_by_fault(alloc, fault, err),
+        Refusal::History(fault) => {
+            end_by_fault(fault_line(alloc, fault), Status::HistoryRefused, err)
+        }
+        Refusal::Cert(fault) => {
+            end_by_fault(cert_fault_line(alloc, fault), Status::CertRefused, err)
+        }
         Refusal::Missing(line) => end(err, line.as_slice(), Status::Missing),
         Refusal::ReadFailed => end(err, b"read failed\n", Status::ReadFailed),
         Refusal::WriteFailed => end(err, b"write failed\n", Status::WriteFailed),

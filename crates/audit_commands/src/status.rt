@@ -6,17 +6,21 @@ ghost use Rattle.audit_commands.specs.Status.{number};
 /// How a call of the program ended.
 #[derive(Clone, Copy, Debug, PartialEq, Eq)]
 pub enum Status {
-    /// The report was written.
+    /// What the words ask for was done: the report was written, or each verdict of the certificate is shown.
     Done,
+    /// Some verdict of the certificate isn't shown.
+    NotShown,
     /// The words are others.
     WordsRefused,
     /// The file is no history.
     HistoryRefused,
+    /// The file is no certificate of the history.
+    CertRefused,
     /// There is no such file.
     Missing,
     /// A read failed.
     ReadFailed,
-    /// A write of the report failed.
+    /// A write failed.
     WriteFailed,
     /// The file is longer than the limit.
     TooLong,
@@ -31,8 +35,10 @@ impl Status {
     {
         match self {
             Status::Done => 0,
+            Status::NotShown => 1,
             Status::WordsRefused => 2,
             Status::HistoryRefused => 3,
+            Status::CertRefused => 4,
             Status::Missing => 5,
             Status::ReadFailed => 6,
             Status::WriteFailed => 7,

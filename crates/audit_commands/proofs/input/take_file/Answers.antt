@@ -19,5 +19,5 @@ loop-turn-preserved g c =
     record {
       turns = rw items (byte_a_turn c.loop-turn.bytes.items c.read.new.into c.loop-turn.turn count before.turns within some);
       short = short;
-      taken = rw items (taken_more c.args.name.now c.loop-turn.bytes.items c.read.new.into (g.S.Shelf.shown c.args.shelf.now) (g.S.Shelf.shown c.loop-turn.shelf) (g.S.Shelf.shown c.read.new.self) count small (search rules) before.taken c.read.ensures.keeps counts ok);
+      taken = rw items (taken_more c.args.name.now c.loop-turn.bytes.items c.read.new.into (g.S.Shelf.shown c.args.shelf.now) (g.S.Shelf.shown c.loop-turn.shelf) (g.S.Shelf.shown c.read.new.self) count small (search rules) before.taken c.read.ensures.keeps c.read.ensures.writing counts ok);
     }

@@ -1,0 +1,171 @@
+-- That a status is the one which the contents of the named files ask for, where files are told and nothing fails.
+use Rattle.std.proofs.Common.{◌≡◌, ℕ, ◌<◌, ◌≤◌, true, false, List, Option, Some, None, Result, Ok, Err, length, refl, sym, ◌∙◌, ap, inl, inr, subst, arith}
+use Rattle.std.specs.Prelude.{nat_lt, IfSome, IsSomeAnd, ◌⊎◌}
+use Rattle.stale_model.specs.declared.History.{History}
+use Rattle.stale_model.specs.declared.Verdict.{Verdict}
+use Rattle.stale_model.specs.Truth.{EachKeyHas}
+use Rattle.stale_model.specs.Shown.{IsShown}
+use Rattle.history_csv.specs.declared.HistoryFault.{HistoryFault}
+use Rattle.history_csv.specs.Reading as history
+use Rattle.cert_text.specs.declared.CertFault.{CertFault}
+use Rattle.cert_text.specs.Certificates.{cert_text}
+use Rattle.cert_text.specs.Reading as certificate
+use Rattle.audit_ports.specs.Shelf.{Shown, Files, Rose, KeepsCounts, file_at}
+use Rattle.audit_ports.specs.Sink.{SinkShown}
+use Rattle.audit_words.specs.declared.Task.{Task}
+use Rattle.audit_words.specs.declared.Task.TheVariants.{Audit, Check}
+use Rattle.audit_words.specs.Tasks.{task_of}
+use Rattle.audit_commands.specs.declared.refusal.Refusal.{Refusal}
+use Rattle.audit_commands.specs.declared.refusal.Refusal.TheVariants as refusal
+use Rattle.audit_commands.specs.declared.status.Status.{Status}
+use Rattle.audit_commands.specs.declared.status.Status.TheVariants as status
+use Rattle.audit_commands.specs.Status.{number}
+use Rattle.audit_commands.specs.Input.{TakesInput, IsTooLong}
+use Rattle.audit_commands.specs.Audit.{history_limit, cert_limit, TakesHistory, IsFaultOf, TakesCert, IsCertFaultOf, TakesBoth, Input, IsInput, IsCertInput, history_file, history_input}
+use Rattle.audit_commands.specs.Output.{WritesNamedPart}
+use Rattle.audit_commands.specs.Ends.{outside, AuditUnwritten, IsUnwritten}
+use Rattle.audit_commands.specs.Steps.{Performs}
+use Rattle.audit_commands.specs.Refusals.{IsRefused, Answers}
+use Rattle.audit_commands.specs.Complete.{NothingFailed, input_in, history_in, history_in_bytes, history_or_status, verdicts_in_bytes, verdicts_or_status, VerdictsAsk, Asks, WordsAsk, IsComplete}
+
+told : (o : Option Files) (f : Files) (P : Files → Type 0) → o ≡ Some f → IfSome o P → P f
+told o f P is h = rw is at h
+
+from_told : (o : Option Files) (P : Files → Type 0) → ((f : Files) → o ≡ Some f → P f) → IfSome o P
+from_told None P h = tt
+from_told (Some f) P h = h f refl
+
+module _ (f : Files) (limit : ℕ) (name : List ℕ) (m n : Shown) (is : m.files ≡ Some f) where
+  -- an input that was taken
+  input_told : (bytes : List ℕ) → TakesInput limit name m n bytes → input_in limit (file_at f name) ≡ Ok bytes
+  input_told bytes input =
+      let there : file_at f name ≡ Some bytes = told m.files f (λ files. file_at files name ≡ Some bytes) is input.told in
+      let within = input.within in
+      let short : nat_lt limit (length bytes) ≡ false = grind arith in
+      rw (there, short) refl
+
+  longer_than : (content : Option (List ℕ)) → IsSomeAnd content (λ bytes. limit < length bytes) → input_in limit content ≡ Err status.TooLong
+  longer_than None h = absurd h
+  longer_than (Some bytes) h = let long : nat_lt limit (length bytes) ≡ true = grind arith in rw long refl
+
+  -- an input that is longer than its limit
+  long_told : IsTooLong limit name m n → input_in limit (file_at f name) ≡ Err status.TooLong
+  long_told long = longer_than (file_at f name) (told m.files f (λ files. IsSomeAnd (file_at files name) (λ bytes. limit < length bytes)) is long.longer)
+
+  -- an input that is missing
+  absent_told : n.files ≡ m.files → IfSome n.files (λ files. file_at files name ≡ None) → input_in limit (file_at f name) ≡ Err status.Missing
+  absent_told same absent =
+      let there : file_at f name ≡ None = told n.files f (λ files. file_at files name ≡ None) (same ∙ is) absent in
+      rw there refl
+
+history_told : (f : Files) (task : Task) (s m : Shown) (h : History) → s.files ≡ Some f → TakesHistory (history_file task) s m h → history_in f task ≡ Ok h
+history_told f task s m h is taken =
+    let input = input_told f history_limit (history_file task) s m is taken.bytes taken.input in
+    let reads : history.read_of taken.bytes ≡ Ok h = taken.reads in
+    rw (input, reads) refl
+
+verdicts_told : (f : Files) (cert : List ℕ) (keys : ℕ) (m n : Shown) (verdicts : List Verdict) → m.files ≡ Some f → TakesCert cert keys m n verdicts
+    → verdicts_in_bytes keys (input_in cert_limit (file_at f cert)) ≡ Ok verdicts
+verdicts_told f cert keys m n verdicts is taken =
+    let input = input_told f cert_limit cert m n is taken.bytes taken.input in
+    let reads : certificate.read_of keys taken.bytes ≡ Ok verdicts = taken.reads in
+    rw (input, reads) refl
+
+-- a history that asks for a status
+asks_by_history : (f : Files) (task : Task) (asked : Status) → history_in f task ≡ Err asked → Asks f task asked
+asks_by_history f (Audit file cert workers) asked is = rw is refl
+asks_by_history f (Check file cert) asked is = rw is refl
+
+-- a certificate's file that asks for a status
+asks_by_cert : (f : Files) (file cert : List ℕ) (h : History) (asked : Status) → history_in f (Check file cert) ≡ Ok h
+    → verdicts_in_bytes (length h.keys) (input_in cert_limit (file_at f cert)) ≡ Err asked → Asks f (Check file cert) asked
+asks_by_cert f file cert h asked is cert_is = rw (is, cert_is) refl
+
+asks_by_verdicts : (f : Files) (file cert : List ℕ) (s n : Shown) (h : History) (verdicts : List Verdict) (asked : Status) → s.files ≡ Some f
+    → TakesBoth file cert s n h verdicts → VerdictsAsk h.keys (Ok verdicts) asked → Asks f (Check file cert) asked
+asks_by_verdicts f file cert s n h verdicts asked is both ask =
+    let hist : history_in f (Check file cert) ≡ Ok h = history_told f (Check file cert) s both.between h is both.history in
+    let certs = verdicts_told f cert (length h.keys) both.between n verdicts (both.history.input.files ∙ is) both.certificate in
+    rw (hist, certs) ask
+
+module _ (f : Files) (task : Task) (s n : Shown) (is : s.files ≡ Some f) (same : n.files ≡ s.files) where
+  -- an input, whatever of the two it is, whose file asks for this status
+  asks_by_input : (input : Input) (asked : Status) → IsInput task s input
+      → ((m : Shown) → m.files ≡ Some f → n.files ≡ m.files → m ≡ input.before → input_in input.limit (file_at f input.name) ≡ Err asked) → Asks f task asked
+  asks_by_input input asked (inl first) says =
+      let before : input.before ≡ s = ap (λ (x : Input). x.before) first in
+      let at = says s is same (sym before) in
+      let at_history : input_in history_limit (file_at f (history_file task)) ≡ Err asked = subst (λ (x : Input). input_in x.limit (file_at f x.name) ≡ Err asked) first at in
+      asks_by_history f task asked (rw at_history refl)
+  asks_by_input input asked (inr c) says =
+      let files : input.before.files ≡ s.files = c.history.input.files in
+      let at = says input.before (files ∙ is) (same ∙ sym files) refl in
+      let at_cert : input_in cert_limit (file_at f input.name) ≡ Err asked = rw c.limit_is at at in
+      let hist : history_in f (Check c.file input.name) ≡ Ok c.h = history_told f (Check c.file input.name) s input.before c.h is c.history in
+      subst (λ t. Asks f t asked) (sym c.task_is) (asks_by_cert f c.file input.name c.h asked hist (rw at_cert refl))
+
+module _ (words : List (List ℕ)) (task : Task) (named : task_of words ≡ Some task) (s n : Shown) (o o' e e' : SinkShown) where
+  Completes : Files → Status → Type 0
+  Completes f answer = ((asked : Status) × WordsAsk f (task_of words) asked × (number answer ≡ number asked)) ⊎ (number answer ≡ number status.OutOfMemory)
+
+  by_asking : (f : Files) (answer asked : Status) → answer ≡ asked → Asks f task asked → Completes f answer
+  unfolding Completes
+  by_asking f answer asked is asks = inl (asked, rw named asks, ap number is)
+
+  no_write_failed : (cert : Option (List ℕ)) (text : List ℕ) (taken : Shown) → taken.write_faults ≡ s.write_faults → WritesNamedPart cert text taken n
+      → (Rose s.write_faults n.write_faults → ⊥) → ⊥
+  no_write_failed None text taken counts w none = w
+  no_write_failed (Some name) text taken counts w none = none (subst (λ c. Rose c n.write_faults) counts w.fails.write_faults)
+
+  unwritten_fails : (t : Task) → IsUnwritten t s n o o' → NothingFailed (outside s o e) (outside n o' e') → ⊥
+  unwritten_fails (Audit file cert workers) u fine = elim u.fails [
+    | inl w ↦ no_write_failed cert (cert_text u.verdicts) u.taken u.audit.input.input.counts.write_faults w.0 fine.writes
+    | inr w ↦ fine.out w.1.faults
+  ]
+  unwritten_fails (Check file cert) u fine = fine.out u.line.faults
+
+  refused_told : (f : Files) → s.files ≡ Some f → (r : Refusal) (answer : Status) → IsRefused task s n o o' r → Answers r answer e e'
+      → NothingFailed (outside s o e) (outside n o' e') → Completes f answer
+  unfolding Completes
+  refused_told f is (refusal.History fault) answer h (inl (line, l, says)) fine =
+      let x = h.shows.0 in
+      let input = input_told f history_limit (history_file task) s n is x.bytes x.input in
+      let reads : history.read_of x.bytes ≡ Err fault = x.reads in
+      by_asking f answer status.HistoryRefused says.status_is (asks_by_history f task status.HistoryRefused (rw (input, reads) refl))
+  refused_told f is (refusal.History fault) answer h (inr says) fine = inr (ap number says.status_is)
+  refused_told f is (refusal.Cert fault) answer h (inl (line, l, says)) fine =
+      let x = h.shows in
+      let input = input_told f cert_limit x.cert x.taken n (x.history.input.files ∙ is) x.fault_is.bytes x.fault_is.input in
+      let reads : certificate.read_of (length x.h.keys) x.fault_is.bytes ≡ Err fault = x.fault_is.reads in
+      let hist : history_in f (Check x.file x.cert) ≡ Ok x.h = history_told f (Check x.file x.cert) s x.taken x.h is x.history in
+      by_asking f answer status.CertRefused says.status_is
+          (subst (λ t. Asks f t status.CertRefused) (sym x.task_is) (asks_by_cert f x.file x.cert x.h status.CertRefused hist (rw (input, reads) refl)))
+  refused_told f is (refusal.Cert fault) answer h (inr says) fine = inr (ap number says.status_is)
+  refused_told f is (refusal.Missing line) answer h says fine =
+      let x = h.shows in
+      by_asking f answer status.Missing says.status_is (asks_by_input f task s n is h.files x.input status.Missing x.input_is
+          (λ m told_m same before. absent_told f x.input.limit x.input.name m n told_m same x.says.misses.absent))
+  refused_told f is refusal.ReadFailed answer h says fine = absurd (fine.reads h.shows.read_faults)
+  refused_told f is refusal.WriteFailed answer h says fine = absurd (unwritten_fails task h fine)
+  refused_told f is (refusal.TooLong line) answer h says fine =
+      let x = h.shows in
+      by_asking f answer status.TooLong says.status_is (asks_by_input f task s n is h.files x.input status.TooLong x.input_is
+          (λ m told_m same before. long_told f x.input.limit x.input.name m n told_m (subst (λ b. IsTooLong x.input.limit x.input.name b n) (sym before) x.says.too_long)))
+  refused_told f is refusal.Memory answer h says fine = inr (ap number says.status_is)
+
+  performed_told : (f : Files) → s.files ≡ Some f → (t : Task) (answer : Status) → Performs t s n o o' answer → Asks f t answer
+  performed_told f is (Audit file cert workers) status.Done p =
+      let hist : history_in f (Audit file cert workers) ≡ Ok p.h = history_told f (Audit file cert workers) s p.taken p.h is p.audit.input in
+      rw hist refl
+  performed_told f is (Check file cert) status.Done p = asks_by_verdicts f file cert s n p.h p.verdicts status.Done is p.inputs (inl (refl, p.shown))
+  performed_told f is (Check file cert) status.NotShown p = asks_by_verdicts f file cert s n p.h p.verdicts status.NotShown is p.inputs (inr (refl, p.not_shown))
+
+  -- a refusal has the status that the contents ask for, or want of memory
+  pub refused_complete : (r : Refusal) (answer : Status) → IsRefused task s n o o' r → Answers r answer e e' → IsComplete words (outside s o e) (outside n o' e') (number answer)
+  unfolding Completes
+  refused_complete r answer h says = from_told s.files _ (λ f is fine. refused_told f is r answer h says fine)
+
+  -- and so has what was performed
+  pub performed_complete : (answer : Status) → Performs task s n o o' answer → IsComplete words (outside s o e) (outside n o' e') (number answer)
+  unfolding Completes
+  performed_complete answer p = from_told s.files _ (λ f is fine. by_asking f answer answer refl (performed_told f is task answer p))

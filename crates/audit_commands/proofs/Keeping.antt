@@ -1,0 +1,98 @@
+-- What stays as it was on a shelf.
+use Rattle.std.proofs.Common.{◌≡◌, ℕ, ◌≤◌, List, Option, Some, None, refl, sym, ◌∙◌, inl, inr, subst, arith}
+use Rattle.audit_ports.specs.Shelf.{Shown, Files, KeepsFiles, KeepsCounts, FailsWriting, WhereTold, Sets}
+use Rattle.audit_commands.specs.Output.{WritesFile, WritesFilePart, WritesNamed, WritesNamedPart}
+use Rattle.audit_commands.specs.Ends.{KeepsOthers, KeepsShelf}
+use Rattle.audit_commands.specs.Steps.{OnlyReads}
+
+others_same : (output : Option (List ℕ)) (files : Option Files) → KeepsOthers output files files
+others_same None files = refl
+others_same (Some name) None = tt
+others_same (Some name) (Some f) = λ other differs. refl
+
+others_of_sets : (name text : List ℕ) (old new : Option Files) → WhereTold (Sets name text) old new → KeepsOthers (Some name) old new
+others_of_sets name text None None s = tt
+others_of_sets name text (Some o) (Some n) s = s.others
+others_of_sets name text None (Some n) s = absurd s
+others_of_sets name text (Some o) None s = absurd s
+
+-- a shelf that is left alone
+pub keeps_same : (output : Option (List ℕ)) (s : Shown) → s.writing ≡ None → KeepsShelf output s s
+keeps_same output s quiet = record {
+  files = others_same output s.files;
+  read_faults = omega arith;
+  write_faults = omega arith;
+  misses = omega arith;
+  writing = quiet;
+}
+
+-- files that are read
+pub keeps_reading : (output : Option (List ℕ)) (s m : Shown) → OnlyReads s m → s.writing ≡ None → KeepsShelf output s m
+keeps_reading output s m reads quiet = record {
+  files = subst (KeepsOthers output s.files) (sym reads.keeps.files) (others_same output s.files);
+  read_faults = reads.keeps.read_faults;
+  write_faults = reads.keeps.write_faults;
+  misses = reads.keeps.misses;
+  writing = reads.writing ∙ quiet;
+}
+
+keeps_file : (name text : List ℕ) (m n : Shown) → WritesFile name text m n → KeepsShelf (Some name) m n
+keeps_file name text m n w =
+    let c = w.counts in
+    let (r, f, k) = (c.read_faults, c.write_faults, c.misses) in
+    record {
+      files = others_of_sets name text m.files n.files w.files;
+      read_faults = omega arith;
+      write_faults = omega arith;
+      misses = omega arith;
+      writing = w.writing;
+    }
+
+keeps_file_part : (name text : List ℕ) (m n : Shown) → WritesFilePart name text m n → KeepsShelf (Some name) m n
+keeps_file_part name text m n w =
+    let f = w.fails in
+    let (r, k) = (f.read_faults, f.misses) in
+    record {
+      files = elim w.files [
+        | inl same ↦ subst (KeepsOthers (Some name) m.files) (sym same) (others_same (Some name) m.files)
+        | inr part ↦ others_of_sets name _ m.files n.files part.1
+      ];
+      read_faults = omega arith;
+      write_faults = f.keeps;
+      misses = omega arith;
+      writing = f.writing;
+    }
+
+-- a file that was written where it is named
+pub keeps_written : (output : Option (List ℕ)) (text : List ℕ) (m n : Shown) → m.writing ≡ None → WritesNamed output text m n → KeepsShelf output m n
+keeps_written None text m n quiet same = subst (KeepsShelf None m) (sym same) (keeps_same None m quiet)
+keeps_written (Some name) text m n quiet w = keeps_file name text m n w
+
+-- a file that was not, or not wholly, written
+pub keeps_part : (output : Option (List ℕ)) (text : List ℕ) (m n : Shown) → WritesNamedPart output text m n → KeepsShelf output m n
+keeps_part None text m n w = absurd w
+keeps_part (Some name) text m n w = keeps_file_part name text m n w
+
+-- reading, and then something that keeps a shelf
+pub keeps_after : (output : Option (List ℕ)) (s m n : Shown) → OnlyReads s m → KeepsShelf output m n → KeepsShelf output s n
+keeps_after output s m n reads k =
+    let r = reads.keeps in
+    let (a, b, c) = (r.read_faults, r.write_faults, r.misses) in
+    let (d, e, f) = (k.read_faults, k.write_faults, k.misses) in
+    record {
+      files = subst (λ o. KeepsOthers output o n.files) r.files k.files;
+      read_faults = omega arith;
+      write_faults = omega arith;
+      misses = omega arith;
+      writing = k.writing;
+    }
+
+-- reading twice
+pub reads_after : (s m n : Shown) → OnlyReads s m → OnlyReads m n → OnlyReads s n
+reads_after s m n p q =
+    let (a, b, c) = (p.keeps.read_faults, p.keeps.write_faults, p.keeps.misses) in
+    let (d, e, f) = (q.keeps.read_faults, q.keeps.write_faults, q.keeps.misses) in
+    record {
+      keeps = record { files = q.keeps.files ∙ p.keeps.files; read_faults = omega arith; write_faults = omega arith; misses = omega arith };
+      writing = q.writing ∙ p.writing;
+    }

@@ -1,0 +1,65 @@
+-- What shows a refusal of a task, from what shows that of its input.
+use Rattle.std.proofs.Common.{◌≡◌, ◌≢◌, ℕ, List, Option, Some, None, Ok, Err, length, refl, sym, ◌∙◌, inl, inr, subst}
+use Rattle.stale_model.specs.declared.History.{History}
+use Rattle.stale_model.specs.declared.Verdict.{Verdict}
+use Rattle.audit_ports.specs.Shelf.{Shown, Rose, KeepsCounts, Misses, FailsReading}
+use Rattle.audit_ports.specs.Sink.{SinkShown}
+use Rattle.audit_words.specs.declared.Task.{Task}
+use Rattle.audit_words.specs.declared.Task.TheVariants.{Audit, Check}
+use Rattle.audit_commands.specs.declared.refusal.Refusal.{Refusal}
+use Rattle.audit_commands.specs.declared.refusal.Refusal.TheVariants as refusal
+use Rattle.audit_commands.specs.Audit.{history_limit, cert_limit, TakesHistory, TakesBoth, IsInput, history_file, history_input}
+use Rattle.audit_commands.proofs.WritingFiles.{counts_kept}
+use Rattle.audit_commands.specs.Refusals.{InputShows, HistoryShows, CertShows, Shows, RefusedBefore, IsRefused}
+
+-- a refusal of the history is one of the task
+pub history_shows : (task : Task) (s m : Shown) (r : Refusal) → HistoryShows (history_file task) s m r → Shows task s m r
+history_shows task s m (refusal.History fault) h = h
+history_shows task s m (refusal.Cert fault) h = absurd h
+history_shows task s m (refusal.Missing line) h = record { input = history_input task s; input_is = inl refl; says = h }
+history_shows task s m refusal.ReadFailed h = h
+history_shows task s m refusal.WriteFailed h = absurd h
+history_shows task s m (refusal.TooLong line) h = record { input = history_input task s; input_is = inl refl; says = h }
+history_shows task s m refusal.Memory h = h
+
+-- counts that were kept, and a read that failed
+fails_reading_after : (s m n : Shown) → KeepsCounts s m → FailsReading m n → FailsReading s n
+fails_reading_after s m n k f = record {
+  read_faults = subst (λ c. Rose c n.read_faults) k.read_faults f.read_faults;
+  write_faults = f.write_faults ∙ k.write_faults;
+  misses = f.misses ∙ k.misses;
+}
+
+-- a refusal of the certificate is one of the check
+pub cert_shows : (file cert : List ℕ) (s m n : Shown) (h : History) (r : Refusal) → TakesHistory file s m h → CertShows cert (length h.keys) m n r
+    → Shows (Check file cert) s n r
+cert_shows file cert s m n h (refusal.History fault) taken c = absurd c
+cert_shows file cert s m n h (refusal.Cert fault) taken c =
+    record { file = file; cert = cert; task_is = refl; taken = m; h = h; history = taken; fault_is = c.0; no_memory = c.1 }
+cert_shows file cert s m n h (refusal.Missing line) taken c = record {
+  input = record { name = cert; limit = cert_limit; before = m };
+  input_is = inr (record { file = file; task_is = refl; limit_is = refl; h = h; history = taken });
+  says = c;
+}
+cert_shows file cert s m n h refusal.ReadFailed taken c = fails_reading_after s m n taken.input.counts c
+cert_shows file cert s m n h refusal.WriteFailed taken c = absurd c
+cert_shows file cert s m n h (refusal.TooLong line) taken c = record {
+  input = record { name = cert; limit = cert_limit; before = m };
+  input_is = inr (record { file = file; task_is = refl; limit_is = refl; h = h; history = taken });
+  says = c;
+}
+cert_shows file cert s m n h refusal.Memory taken c = counts_kept s m n taken.input.counts c
+
+-- no count changes where both inputs are taken
+pub both_keep_counts : (file cert : List ℕ) (s n : Shown) (h : History) (verdicts : List Verdict) → TakesBoth file cert s n h verdicts → KeepsCounts s n
+both_keep_counts file cert s n h verdicts b = counts_kept s b.between n b.history.input.counts b.certificate.input.counts
+
+-- a refusal before any output
+pub refused_before : (task : Task) (s m : Shown) (out : SinkShown) (r : Refusal) → Shows task s m r → m.files ≡ s.files → IsRefused task s m out out r
+refused_before task s m out (refusal.History fault) h files = record { shows = h; files = files; same = refl }
+refused_before task s m out (refusal.Cert fault) h files = record { shows = h; files = files; same = refl }
+refused_before task s m out (refusal.Missing line) h files = record { shows = h; files = files; same = refl }
+refused_before task s m out refusal.ReadFailed h files = record { shows = h; files = files; same = refl }
+refused_before task s m out refusal.WriteFailed h files = absurd h
+refused_before task s m out (refusal.TooLong line) h files = record { shows = h; files = files; same = refl }
+refused_before task s m out refusal.Memory h files = record { shows = h; files = files; same = refl }

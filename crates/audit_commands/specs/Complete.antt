@@ -1,0 +1,86 @@
+-- Which status a call ends with, where files are told, nothing fails and memory is ample.
+use Rattle.std.specs.Prelude.{◌≡◌, ◌⊎◌, ℕ, nat_lt, if◌then◌else◌, List, length, Option, Some, None, IfSome, Result, Ok, Err}
+use Rattle.stale_model.specs.declared.KeyOps.{KeyOps}
+use Rattle.stale_model.specs.declared.History.{History}
+use Rattle.stale_model.specs.declared.Verdict.{Verdict}
+use Rattle.stale_model.specs.Truth.{EachKeyHas}
+use Rattle.stale_model.specs.Shown.{IsShown}
+use Rattle.history_csv.specs.declared.HistoryFault.{HistoryFault}
+use Rattle.history_csv.specs.Reading as history
+use Rattle.cert_text.specs.declared.CertFault.{CertFault}
+use Rattle.cert_text.specs.Reading as certificate
+use Rattle.audit_ports.specs.Shelf.{Files, Rose, file_at}
+use Rattle.audit_words.specs.declared.Task.{Task}
+use Rattle.audit_words.specs.declared.Task.TheVariants.{Audit, Check}
+use Rattle.audit_words.specs.Tasks.{task_of}
+use Rattle.audit_commands.specs.declared.status.Status.{Status}
+use Rattle.audit_commands.specs.declared.status.Status.TheVariants as status
+use Rattle.audit_commands.specs.Status.{number}
+use Rattle.audit_commands.specs.Audit.{history_limit, cert_limit, history_file}
+use Rattle.audit_commands.specs.Ends.{Outside}
+
+-- no read failed in the call, and no write
+pub record NothingFailed (old new : Outside) : Type 0 where
+  pub reads : Rose old.shelf.read_faults new.shelf.read_faults → ⊥
+  pub writes : Rose old.shelf.write_faults new.shelf.write_faults → ⊥
+  pub out : Rose old.out.faults new.out.faults → ⊥
+
+-- the bytes of an input, or the status of a file that isn't there or is longer than its limit
+abbrev pub input_in : ℕ → Option (List ℕ) → Result (List ℕ) Status
+input_in limit None = Err status.Missing
+input_in limit (Some bytes) = if nat_lt limit (length bytes) then Err status.TooLong else Ok bytes
+
+-- the history that was read, or the status of its fault
+abbrev pub history_or_status : Result History HistoryFault → Result History Status
+history_or_status (Ok h) = Ok h
+history_or_status (Err fault) = Err status.HistoryRefused
+
+-- the history in a file, or the status that the file asks for
+abbrev pub history_in_bytes : Result (List ℕ) Status → Result History Status
+history_in_bytes (Ok bytes) = history_or_status (history.read_of bytes)
+history_in_bytes (Err s) = Err s
+
+-- the verdicts that were read, or the status of their fault
+abbrev pub verdicts_or_status : Result (List Verdict) CertFault → Result (List Verdict) Status
+verdicts_or_status (Ok verdicts) = Ok verdicts
+verdicts_or_status (Err fault) = Err status.CertRefused
+
+-- the verdicts in a file, of so many keys, or the status that the file asks for
+abbrev pub verdicts_in_bytes : ℕ → Result (List ℕ) Status → Result (List Verdict) Status
+verdicts_in_bytes keys (Ok bytes) = verdicts_or_status (certificate.read_of keys bytes)
+verdicts_in_bytes keys (Err s) = Err s
+
+-- done where each verdict of these keys is shown, and not shown where some isn't
+abbrev pub VerdictsAsk : List KeyOps → Result (List Verdict) Status → Status → Type 0
+VerdictsAsk keys (Err s) asked = asked ≡ s
+VerdictsAsk keys (Ok verdicts) asked =
+    ((asked ≡ status.Done) × EachKeyHas IsShown keys verdicts) ⊎ ((asked ≡ status.NotShown) × (EachKeyHas IsShown keys verdicts → ⊥))
+
+-- what the history and the certificate's file of a check ask for
+abbrev pub CheckAsks : Result History Status → Option (List ℕ) → Status → Type 0
+CheckAsks (Err s) content asked = asked ≡ s
+CheckAsks (Ok h) content asked = VerdictsAsk h.keys (verdicts_in_bytes (length h.keys) (input_in cert_limit content)) asked
+
+-- what the history of an audit asks for
+abbrev pub AuditAsks : Result History Status → Status → Type 0
+AuditAsks (Err s) asked = asked ≡ s
+AuditAsks (Ok h) asked = asked ≡ status.Done
+
+-- the history in the file that a task names, or the status that the file asks for
+abbrev pub history_in : Files → Task → Result History Status
+history_in files task = history_in_bytes (input_in history_limit (file_at files (history_file task)))
+
+-- the status that a task asks for over these files
+abbrev pub Asks : Files → Task → Status → Type 0
+Asks files (Audit file cert workers) asked = AuditAsks (history_in files (Audit file cert workers)) asked
+Asks files (Check file cert) asked = CheckAsks (history_in files (Check file cert)) (file_at files cert) asked
+
+-- the status that words ask for over these files
+abbrev pub WordsAsk : Files → Option Task → Status → Type 0
+WordsAsk files None asked = asked ≡ status.WordsRefused
+WordsAsk files (Some task) asked = Asks files task asked
+
+-- where files are told and nothing failed, the status is the one that words and files ask for, or want of memory
+abbrev pub IsComplete : List (List ℕ) → Outside → Outside → ℕ → Type 0
+IsComplete words old new answer = IfSome old.shelf.files (λ files. NothingFailed old new
+    → ((asked : Status) × WordsAsk files (task_of words) asked × (answer ≡ number asked)) ⊎ (answer ≡ number status.OutOfMemory))
