@@ -2,6 +2,7 @@ pub mod Records
 pub mod Fours
 pub mod OrderFaults
 pub mod RefutationFaults
+pub mod States
 pub mod KeyFaults
 pub mod Steps
 pub mod Laws
