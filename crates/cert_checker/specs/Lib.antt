@@ -4,5 +4,6 @@ pub mod OrderFaults
 pub mod RefutationFaults
 pub mod States
 pub mod KeyFaults
+pub mod KeySteps
 pub mod Steps
 pub mod Laws
