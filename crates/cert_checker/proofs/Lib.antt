@@ -9,3 +9,4 @@ pub mod Exact
 pub mod StaleKey
 pub mod ExactKeys
 pub mod KeyStates
+pub mod EachKey
