@@ -1,6 +1,5 @@
 -- The states of a key exclude one another.
-use Rattle.std.proofs.Common.{◌≡◌, ℕ, ◌≤◌, List, refl, sym, ap, subst, inl, inr, arith}
-use Rattle.std.specs.Prelude.{Some}
+use Rattle.std.proofs.Common.{◌≡◌, ℕ, List, refl, ap, inl, inr, arith}
 use Rattle.stale_model.specs.declared.Op.{Op}
 use Rattle.stale_model.specs.declared.Judgement.{Judgement}
 use Rattle.stale_model.specs.declared.Verdict.{Verdict}

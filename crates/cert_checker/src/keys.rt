@@ -178,11 +178,7 @@ fn judgement_fault(
 }
 
 // The fault of a verdict.
-fn key_fault(
-    alloc: Global,
-    key: &KeyOps,
-    verdict: &Verdict,
-) -> Result<Option<KeyFault>, Memory>
+fn key_fault(alloc: Global, key: &KeyOps, verdict: &Verdict) -> Result<Option<KeyFault>, Memory>
     requires { IsValidKey key.now }
     ensures { IfOk result (IsKeyCheck (operations key.now) verdict.now) }
 {
