@@ -2,6 +2,8 @@ pub mod Records
 pub mod Fours
 pub mod OrderFaults
 pub mod RefutationFaults
+pub mod States
 pub mod KeyFaults
+pub mod KeySteps
 pub mod Steps
 pub mod Laws

@@ -1,12 +1,19 @@
 //! The verdicts of keys, rule by rule.
-ghost use Rattle.std.specs.Prelude.{◌≡◌, IfOk, length};
+ghost use Rattle.std.specs.Prelude.{◌≡◌, IfOk, IsTrue, ◌↔◌, length};
 ghost use Rattle.stale_model.specs.Operations.{operations};
 ghost use Rattle.stale_model.specs.Valid.{IsValidKey, IsValidHistory};
-ghost use Rattle.cert_checker.specs.KeyFaults.{key_rule, key_record, FindsKey, FindsAll};
+ghost use Rattle.stale_model.specs.Faults.{IsMatchedKey, IsClearKey};
+ghost use Rattle.stale_model.specs.Shown.{FourShow};
+ghost use Rattle.cert_checker.specs.KeyFaults.{key_rule, key_record, named_record, record_of_four, IsKeyCheck, FindsKey, FindsAll};
+ghost use Rattle.cert_checker.specs.KeySteps.{named_state, FindsKindIn, IsTwoCheck};
 
-use crate::orders::OrderFault;
+use crate::faults::{State, state_of};
+use crate::four::four_hold;
+use crate::orders::{OrderFault, order_fault};
+use crate::records::Hints;
+use crate::refutations::refutation_fault;
 use crate::{Checked, Found};
-use stale_model::{History, KeyOps, Memory, Verdict};
+use stale_model::{Four, History, Judgement, KeyOps, Memory, TwoPart, Verdict};
 use std::alloc::Global;
 
 // What is wrong with that which shows whether a key is 2-atomic.
@@ -59,6 +66,132 @@ impl KeyFault {
     }
 }
 
+// The record that a verdict names, if it names one.
+fn named_record(verdict: &Verdict) -> Option<u32>
+    ensures { result ≡ named_record verdict.now }
+{
+    match verdict {
+        Verdict::Duplicate { rec } => Some(*rec),
+        Verdict::Unmatched { rec } => Some(*rec),
+        Verdict::Infinite { rec } => Some(*rec),
+        Verdict::Judged(_) => None,
+    }
+}
+
+// Whether a verdict names this state of its key.
+fn names_state(verdict: &Verdict, state: State) -> bool
+    ensures { IsTrue result ↔ (named_state verdict.now ≡ state) }
+{
+    match (verdict, state) {
+        (Verdict::Duplicate { rec }, State::Duplicate { rec: least }) => *rec == least,
+        (Verdict::Unmatched { rec }, State::Unmatched { rec: least }) => *rec == least,
+        (Verdict::Infinite { rec }, State::Early { rec: least }) => *rec == least,
+        (Verdict::Judged(_), State::Clear) => true,
+        _ => false,
+    }
+}
+
+// The record that is named where the verdict doesn't name the state of the key: that of the key's fault, else that of
+// the verdict.
+fn kind_fault(state: State, verdict: &Verdict) -> Option<u32>
+    ensures { FindsKindIn state verdict.now result }
+{
+    if names_state(verdict, state) {
+        return None;
+    }
+    match state {
+        State::Duplicate { rec } => Some(rec),
+        State::Unmatched { rec } => Some(rec),
+        State::Early { rec } => Some(rec),
+        State::Clear => named_record(verdict),
+    }
+}
+
+// Whether delta is 0 where the four records aren't there, and they hold at delta - 1 where they are.
+fn four_shows(delta: u64, key: &KeyOps, four: &Option<Four>) -> bool
+    requires { IsValidKey key.now }
+    ensures { IsTrue result ↔ FourShow (operations key.now) delta four.now }
+{
+    match four {
+        None => delta == 0,
+        Some(four) => delta > 0 && four_hold(delta - 1, key, four),
+    }
+}
+
+// The record p of the four; 0 where they aren't there.
+fn record_of_four(four: &Option<Four>) -> u32
+    ensures { result ≡ record_of_four four.now }
+{
+    match four {
+        None => 0,
+        Some(four) => four.p,
+    }
+}
+
+// The fault of what shows whether a key is 2-atomic.
+fn two_fault(
+    alloc: Global,
+    key: &KeyOps,
+    hints: &Hints,
+    part: &TwoPart,
+) -> Result<Option<TwoFault>, Memory>
+    requires valid { IsValidKey key.now }
+    requires matched { IsMatchedKey (operations key.now) }
+    ensures { IfOk result (IsTwoCheck (operations key.now) part.now) }
+{
+    match part {
+        TwoPart::Yes(order) => {
+            let fault = order_fault(alloc, 0, 2, key, hints, order.as_slice())?;
+            Ok(fault.map(TwoFault::Order))
+        }
+        TwoPart::No(refutation) => {
+            let rec = refutation_fault(alloc, 0, key, hints, refutation)?;
+            Ok(rec.map(|rec| TwoFault::Refutation { rec }))
+        }
+    }
+}
+
+// The fault of a judgement of a key without a fault.
+fn judgement_fault(
+    alloc: Global,
+    key: &KeyOps,
+    judgement: &Judgement,
+) -> Result<Option<KeyFault>, Memory>
+    requires valid { IsValidKey key.now }
+    requires clear { IsClearKey (operations key.now) }
+    ensures { IfOk result (IsKeyCheck (operations key.now) (Verdict.Judged judgement.now)) }
+{
+    let hints = Hints::of(alloc, key)?;
+    let delta = judgement.delta;
+    let order = judgement.order.as_slice();
+    if let Some(fault) = order_fault(alloc, delta, 1, key, &hints, order)? {
+        return Ok(Some(KeyFault::First(fault)));
+    }
+    if !four_shows(delta, key, &judgement.four) {
+        let rec = record_of_four(&judgement.four);
+        return Ok(Some(KeyFault::Four { rec }));
+    }
+    match two_fault(alloc, key, &hints, &judgement.two)? {
+        Some(fault) => Ok(Some(KeyFault::Two(fault))),
+        None => Ok(None),
+    }
+}
+
+// The fault of a verdict.
+fn key_fault(alloc: Global, key: &KeyOps, verdict: &Verdict) -> Result<Option<KeyFault>, Memory>
+    requires { IsValidKey key.now }
+    ensures { IfOk result (IsKeyCheck (operations key.now) verdict.now) }
+{
+    let state = state_of(alloc, key)?;
+    if let Some(rec) = kind_fault(state, verdict) {
+        return Ok(Some(KeyFault::Kind { rec }));
+    }
+    match verdict {
+        Verdict::Judged(judgement) => judgement_fault(alloc, key, judgement),
+        _ => Ok(None),
+    }
+}
+
 /// Whether a verdict of a valid key is shown by its orders and records. Else the first rule that is broken, with the
 /// record that is named: 1, it names the key's fault and its record, or is a judgement of a key without a fault (the
 /// record of the key's fault, else that of the verdict); 2 to 4, the order at delta (as `check_order` says); 5, the
@@ -69,7 +202,13 @@ pub fn check_key(alloc: Global, key: &KeyOps, verdict: &Verdict) -> Result<Found
     requires { IsValidKey key.now }
     ensures { IfOk result (FindsKey (operations key.now) verdict.now) }
 {
-    Err(Memory)
+    match key_fault(alloc, key, verdict)? {
+        None => Ok(Found::Good),
+        Some(fault) => Ok(Found::Bad {
+            rule: fault.rule(),
+            rec: fault.record(),
+        }),
+    }
 }
 
 /// Whether each verdict of a valid history is shown. Else the first key, counted from 1, whose verdict isn't, with
@@ -80,5 +219,14 @@ pub fn check_all(alloc: Global, history: &History, verdicts: &[Verdict]) -> Resu
     requires as_many { length verdicts.now ≡ length history.now.keys }
     ensures { IfOk result (FindsAll history.now.keys verdicts.now) }
 {
-    Err(Memory)
+    for (place, key) in history.keys.as_slice().iter().enumerate() {
+        if let Found::Bad { rule, rec } = check_key(alloc, key, &verdicts[place])? {
+            return Ok(Checked::Bad {
+                key: place as u32 + 1,
+                rule,
+                rec,
+            });
+        }
+    }
+    Ok(Checked::Good)
 }

@@ -11,3 +11,7 @@ pub mod ReadSteps
 pub mod ReadsBack
 pub mod OneText
 pub mod Definite
+pub mod ShownChains
+pub mod ShownRecords
+pub mod ShownDeltas
+pub mod ShownFits

@@ -1,6 +1,8 @@
--- A certificate has one text.
-use Rattle.std.specs.Prelude.{◌≡◌, ℕ, ◌<◌, ◌^◌, ◌&&◌, nat_le, true, Bool, IsTrue, List, [], ◌∷◌, length, Option, Some, None, Ok}
+-- A certificate has one text, and verdicts that are shown can be written and read back.
+use Rattle.std.specs.Prelude.{◌≡◌, ℕ, ◌<◌, ◌^◌, ◌&&◌, nat_le, true, Bool, IsTrue, List, [], ◌∷◌, length, All, Option, Some, None, Ok}
 use Rattle.std.specs.List.{list_all}
+use Rattle.stale_model.specs.declared.Op.{Op}
+use Rattle.stale_model.specs.declared.KeyOps.{KeyOps}
 use Rattle.stale_model.specs.declared.Four.{Four}
 use Rattle.stale_model.specs.declared.End.{End}
 use Rattle.stale_model.specs.declared.End.TheVariants.{Hard, Soft}
@@ -9,6 +11,9 @@ use Rattle.stale_model.specs.declared.TwoPart.{TwoPart}
 use Rattle.stale_model.specs.declared.TwoPart.TheVariants.{Yes, No}
 use Rattle.stale_model.specs.declared.Verdict.{Verdict}
 use Rattle.stale_model.specs.declared.Verdict.TheVariants as verdict
+use Rattle.stale_model.specs.Operations.{operations}
+use Rattle.stale_model.specs.Valid.{IsValidKey}
+use Rattle.stale_model.specs.Shown.{IsShown}
 use Rattle.cert_text.specs.Numbers.{most_record, most_delta}
 use Rattle.cert_text.specs.Certificates.{has_chains, cert_text}
 use Rattle.cert_text.specs.Reading.{read_of}
@@ -55,3 +60,11 @@ abbrev pub TextReadsBack : Type 0
 TextReadsBack =
     (verdicts : List Verdict) → length verdicts < 2 ^ 32 → IsTrue (list_all fits verdicts) → IsTrue (list_all has_chains verdicts)
     → read_of (length verdicts) (cert_text verdicts) ≡ Ok verdicts
+
+-- a verdict that is shown has chains
+abbrev pub ShownHaveChains : Type 0
+ShownHaveChains = (ops : List Op) (v : Verdict) → IsShown ops v → IsTrue (has_chains v)
+
+-- a verdict that is shown of a valid key fits its types; that each record is below 2 ^ 32 is what its own type in the operation gives
+abbrev pub ShownFit : Type 0
+ShownFit = (key : KeyOps) (v : Verdict) → IsValidKey key → All (λ a. a.rec < 2 ^ 32) key.ops → IsShown (operations key) v → IsTrue (fits v)

@@ -3,7 +3,7 @@
 
 ghost use Rattle.std.specs.Prelude.{◌≡◌, ◌≢◌, ◌⊎◌, ◌-◌, ◌^◌, ◌<◌, Err, length};
 ghost use Rattle.cert_text.specs.Reading.{read_of};
-ghost use Rattle.cert_text.specs.Laws.{ReadHasOneText, TextReadsBack};
+ghost use Rattle.cert_text.specs.Laws.{ReadHasOneText, TextReadsBack, ShownHaveChains, ShownFit};
 
 mod lines;
 mod numbers;
@@ -80,6 +80,16 @@ pub fn what_is_read_has_one_text()
 /// and each try has a chain that is not empty.
 pub fn what_is_written_reads_back()
     ensures { TextReadsBack }
+{}
+
+/// Each try of a verdict that is shown has a chain that is not empty.
+pub fn shown_verdicts_have_chains()
+    ensures { ShownHaveChains }
+{}
+
+/// The numbers of a verdict that is shown of a valid key fit their types.
+pub fn shown_verdicts_fit()
+    ensures { ShownFit }
 {}
 
 #[cfg(test)]
