@@ -1,6 +1,7 @@
 //! Checks what shows a verdict, by precedence and orders of operations alone.
 #![tactic(auto)]
 
+mod faults;
 mod four;
 mod keys;
 mod laws;
