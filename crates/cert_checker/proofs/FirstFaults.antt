@@ -9,7 +9,8 @@ use Rattle.stale_model.specs.Operations.{IsRead, IsWrite, operations}
 use Rattle.stale_model.specs.Orders.{StandsAt}
 use Rattle.stale_model.specs.Valid.{IsValidKey}
 use Rattle.stale_model.specs.Faults.{IsReadIn, IsLeastRecord, HasNone}
-use Rattle.stale_model.proofs.Places.{at_its_place, same_at, record_stands}
+use Rattle.stale_model.proofs.Places.{contains_at, at_its_place, same_at, record_stands}
+use Rattle.cert_checker.proofs.InOrder.{no_op}
 use Rattle.cert_checker.proofs.Marks.{key_rises}
 use Rattle.cert_checker.proofs.Starts.{below_or_at}
 
@@ -25,35 +26,18 @@ IsOfOps Fault ops = (b : Op) → Fault b → Contains ops b
 abbrev pub IsOfReads : (Op → Type 0) → List Op → Type 0
 IsOfReads Fault ops = (b : Op) → Fault b → IsReadIn ops b
 
--- the operation that a loop is at stands one place later among all operations
-pub stands_here : (items : List Op) (key : KeyOps) (i : ℕ) (past : Op) → items ≡ key.ops → i < length items → StandsAt (operations key) (i + 1) (get_or items i past)
-stands_here items key i past same within =
-    rw add-one (subst (λ (xs : List Op). StandsAt xs i (get_or items i past)) same (slice_get-get_or items i past within))
-
 -- a read does not write
 pub read_writes_not : (a : Op) → IsRead a → IsWrite a → ⊥
 read_writes_not a read write = cc
 
-module _ (Fault : Op → Type 0) (ops : List Op) where
-  -- a write has no fault of reads
-  pub write_free : IsOfReads Fault ops → (a : Op) → IsWrite a → Fault a → ⊥
-  write_free reads a write f = read_writes_not a (reads a f).kind write
-
-  pub free_none : IsFreeTo Fault ops 0
-  free_none p b low at f = absurd (omega arith)
-
-  pub free_more : (n : ℕ) (a : Op) → IsFreeTo Fault ops n → StandsAt ops n a → (Fault a → ⊥) → IsFreeTo Fault ops (n + 1)
-  free_more n a free at none p b low stands f = elim (below_or_at p n low) [
-    | inl less ↦ free p b less stands f
-    | inr e ↦
-        let same : b ≡ a = same_at ops n b a (subst (λ q. StandsAt ops q b) e stands) at in
-        none (subst Fault same f)
-  ]
-
-  pub free_all : (n : ℕ) → IsOfOps Fault ops → length ops ≤ n → IsFreeTo Fault ops n → HasNone Fault
-  free_all n member le free b f =
-      let there = member b f in
-      free there.0 b (let within = there.1 in omega arith) (at_its_place ops b there) f
+-- one operation more that doesn't have it
+free_more : (Fault : Op → Type 0) (ops : List Op) (n : ℕ) (a : Op) → IsFreeTo Fault ops n → StandsAt ops n a → (Fault a → ⊥) → IsFreeTo Fault ops (n + 1)
+free_more Fault ops n a free at none p b low stands f = elim (below_or_at p n low) [
+  | inl less ↦ free p b less stands f
+  | inr e ↦
+      let same : b ≡ a = same_at ops n b a (subst (λ q. StandsAt ops q b) e stands) at in
+      none (subst Fault same f)
+]
 
 -- the records of operations rise with their places
 pub record_below : (key : KeyOps) → IsValidKey key → (i j : ℕ) (a b : Op) → i < j → StandsAt (operations key) i a → StandsAt (operations key) j b → a.rec < b.rec
@@ -87,3 +71,30 @@ first_is_least key valid Fault member n a free at fault = record {
         | inr le ↦ le
       ];
 }
+
+-- the operation that a loop over those of a key is at
+module _ (key : KeyOps) (items : List Op) (i : ℕ) (same : items ≡ key.ops) where
+  -- it stands one place later among all operations
+  pub stands_here : i < length items → StandsAt (operations key) (i + 1) (get_or items i no_op)
+  stands_here within = rw add-one (subst (λ (xs : List Op). StandsAt xs i (get_or items i no_op)) same (slice_get-get_or items i no_op within))
+
+  pub known_here : i < length items → Contains (operations key) (get_or items i no_op)
+  known_here within = contains_at (operations key) (i + 1) (get_or items i no_op) (stands_here within)
+
+  module _ (Fault : Op → Type 0) (reads : IsOfReads Fault (operations key)) (free : IsFreeTo Fault (operations key) (i + 1)) where
+    pub least_here : i < length items → IsValidKey key → Fault (get_or items i no_op) → IsLeastRecord Fault (get_or items i no_op).rec
+    least_here within valid f =
+        first_is_least key valid Fault (λ b g. (reads b g).there) (i + 1) (get_or items i no_op) free (stands_here within) f
+
+    pub free_next : i < length items → (Fault (get_or items i no_op) → ⊥) → IsFreeTo Fault (operations key) (i + 1 + 1)
+    free_next within none = free_more Fault (operations key) (i + 1) (get_or items i no_op) free (stands_here within) none
+
+    -- a write has no fault of reads
+    pub free_write : i < length items → IsWrite (get_or items i no_op) → IsFreeTo Fault (operations key) (i + 1 + 1)
+    free_write within kind = free_next within (λ f. read_writes_not (get_or items i no_op) (reads (get_or items i no_op) f).kind kind)
+
+    pub free_all : length items ≤ i → HasNone Fault
+    free_all past b f =
+        let there = (reads b f).there in
+        let long = ap length same in
+        free there.0 b (let within = there.1 in omega arith) (at_its_place (operations key) b there) f

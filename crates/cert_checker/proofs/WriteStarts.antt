@@ -6,16 +6,17 @@ use Rattle.std.proofs.lemmas.List.{length-replicate, get_or-replicate}
 use Rattle.std.proofs.lemmas.Option.{slice_get-get_or, slice_get_within, get_or_from_slice_get, slice_get_read}
 use Rattle.stale_model.specs.declared.Op.{Op}
 use Rattle.stale_model.specs.declared.KeyOps.{KeyOps}
-use Rattle.stale_model.specs.Operations.{IsWrite, initial_write, operations, earliest_start, latest_finish}
+use Rattle.stale_model.specs.Operations.{IsRead, IsWrite, initial_write, operations, earliest_start, latest_finish}
 use Rattle.stale_model.specs.Orders.{StandsAt}
 use Rattle.stale_model.specs.Valid.{IsValidKey}
-use Rattle.stale_model.specs.Faults.{IsReadIn, IsWriteOf, IsDuplicate, IsUnmatched, IsEarly, IsDuplicateKey, HasNone}
+use Rattle.stale_model.specs.Faults.{IsReadIn, IsWriteOf, IsDuplicate, IsUnmatched, IsEarly, IsDuplicateKey, IsLeastRecord, HasNone}
 use Rattle.stale_model.proofs.Places.{contains_at, at_its_place, same_at}
 use Rattle.cert_checker.specs.States.{IsStart, AreStarts}
 use Rattle.cert_checker.proofs.Lookups.{in_slots}
 use Rattle.cert_checker.proofs.Marks.{set_at, set_back}
 use Rattle.cert_checker.proofs.Starts.{below_or_at}
-use Rattle.cert_checker.proofs.FirstFaults.{IsFreeTo, stands_below, record_below, first_is_least}
+use Rattle.cert_checker.proofs.InOrder.{no_op}
+use Rattle.cert_checker.proofs.FirstFaults.{read_writes_not, stands_here, known_here, least_here, free_next, IsFreeTo, stands_below, record_below, first_is_least}
 
 -- w writes this value, and stands before place n
 pub record IsWriteTo (ops : List Op) (n value : ℕ) (w : Op) : Type 0 where
@@ -109,12 +110,7 @@ module _ (key : KeyOps) (valid : IsValidKey key) where
   slot_of starts a size c = slice_get-get_or starts a.value None (let low = in_slots key valid a c in omega arith)
 
   -- what the slot of an operation was read as
-  pub slot_is : (starts : List (Option ℕ)) (a : Op) (slot : Option ℕ) → length starts ≡ length key.values + 1 → Contains (operations key) a → get_or starts a.value None ≡ slot
-      → StandsAt starts a.value slot
-  slot_is starts a slot size c is = slot_of starts a size c ∙ ap (λ s. Some s) is
-
-  -- the same of slots that lie on the heap
-  pub item_is : (starts : List (Option ℕ)) (a : Op) (read slot : Option ℕ) → length starts ≡ length key.values + 1 → Contains (operations key) a → read ≡ get_or starts a.value read → read ≡ slot
+  item_is : (starts : List (Option ℕ)) (a : Op) (read slot : Option ℕ) → length starts ≡ length key.values + 1 → Contains (operations key) a → read ≡ get_or starts a.value read → read ≡ slot
       → StandsAt starts a.value slot
   item_is starts a read slot size c here is =
       slice_get_read starts (length starts) a.value read refl (let low = in_slots key valid a c in omega arith) here ∙ ap (λ s. Some s) is
@@ -173,31 +169,66 @@ module _ (key : KeyOps) (valid : IsValidKey key) where
       let e = ap (λ (x : Op). x.rec) same in
       omega arith
 
-module _ (key : KeyOps) (starts : List (Option ℕ)) (h : AreStarts key starts) (a : Op) where
-  -- a read whose slot is empty is unmatched
-  pub unmatched_here : IsReadIn (operations key) a → StandsAt starts a.value None → IsUnmatched (operations key) a
-  unmatched_here read empty = record { read = read; unwritten = h.slots a.value None empty }
+-- what the slots tell of the operation that a loop over those of a key is at, and how it changes them
+module _ (key : KeyOps) (valid : IsValidKey key) (items : List Op) (i : ℕ) (same : items ≡ key.ops) (within : i < length items)
+    (starts : List (Option ℕ)) (size : length starts ≡ length key.values + 1) (slots : AreStartsTo (operations key) (i + 1) starts) (read : Option ℕ)
+    (here : read ≡ get_or starts (get_or items i no_op).value read) where
+  item_here : (slot : Option ℕ) → read ≡ slot → StandsAt starts (get_or items i no_op).value slot
+  item_here slot is = item_is key valid starts (get_or items i no_op) read slot size (known_here key items i same within) here is
 
-  -- an operation whose slot is taken is not
-  pub matched_here : (start : ℕ) → StandsAt starts a.value (Some start) → IsUnmatched (operations key) a → ⊥
-  matched_here start taken f = let (w, only) = h.slots a.value (Some start) taken in f.unwritten w only.is
+  pub taken_here : (start : ℕ) → IsWrite (get_or items i no_op) → read ≡ Some start → IsDuplicateKey (operations key) (get_or items i no_op).rec
+  taken_here start kind is =
+      duplicate_here key valid (i + 1) starts size slots (get_or items i no_op) start (stands_here key items i same within) kind (item_here (Some start) is)
 
-  -- an operation whose slot is empty is not early
-  pub unwritten_here : StandsAt starts a.value None → IsEarly (operations key) a → ⊥
-  unwritten_here empty f = let (w, write, less) = f.before in h.slots a.value None empty w write
+  pub next_read : IsRead (get_or items i no_op) → AreStartsTo (operations key) (i + 1 + 1) starts
+  next_read kind =
+      starts_read (operations key) (i + 1) (get_or items i no_op) (stands_here key items i same within) starts (read_writes_not (get_or items i no_op) kind) slots
 
-  -- a read that has finished before its write starts is early
-  pub early_here : (start : ℕ) → IsReadIn (operations key) a → StandsAt starts a.value (Some start) → latest_finish a < start → IsEarly (operations key) a
-  early_here start read taken less =
-      let (w, only) = h.slots a.value (Some start) taken in
-      let e = only.start_is in
-      record { read = read; before = (w, only.is, omega arith) }
+  pub next_write : (start : ℕ) → IsWrite (get_or items i no_op) → read ≡ None → start ≡ earliest_start (get_or items i no_op)
+      → AreStartsTo (operations key) (i + 1 + 1) (set starts (get_or items i no_op).value (Some start))
+  next_write start kind is start_is =
+      rw start_is (starts_write (operations key) (i + 1) (get_or items i no_op) (stands_here key items i same within) starts kind (item_here None is) slots)
 
-  -- any other is not
-  pub timely_here : (start : ℕ) → StandsAt starts a.value (Some start) → start ≤ latest_finish a → IsEarly (operations key) a → ⊥
-  timely_here start taken le f =
-      let (w, only) = h.slots a.value (Some start) taken in
-      let (x, write, less) = f.before in
-      let e = only.start_is in
-      let g = ap earliest_start (only.only x write) in
-      omega arith
+-- what the slot tells of the operation that a loop over those of a key is at
+module _ (key : KeyOps) (valid : IsValidKey key) (starts : List (Option ℕ)) (h : AreStarts key starts) (items : List Op) (i : ℕ) (same : items ≡ key.ops) (within : i < length items) where
+  slot_here : (slot : Option ℕ) → get_or starts (get_or items i no_op).value None ≡ slot → StandsAt starts (get_or items i no_op).value slot
+  slot_here slot is = slot_of key valid starts (get_or items i no_op) h.size (known_here key items i same within) ∙ ap (λ s. Some s) is
+
+  read_here : IsRead (get_or items i no_op) → IsReadIn (operations key) (get_or items i no_op)
+  read_here kind = record { there = known_here key items i same within; kind = kind }
+
+  module _ (free : IsFreeTo (IsUnmatched (operations key)) (operations key) (i + 1)) where
+    -- a read whose slot is empty is unmatched
+    pub unmatched_here : IsRead (get_or items i no_op) → get_or starts (get_or items i no_op).value None ≡ None → IsLeastRecord (IsUnmatched (operations key)) (get_or items i no_op).rec
+    unmatched_here kind is =
+        least_here key items i same (IsUnmatched (operations key)) (λ b f. f.read) free within valid
+        (record { read = read_here kind; unwritten = h.slots (get_or items i no_op).value None (slot_here None is) })
+
+    -- an operation whose slot is taken is not
+    pub matched_here : (start : ℕ) → get_or starts (get_or items i no_op).value None ≡ Some start → IsFreeTo (IsUnmatched (operations key)) (operations key) (i + 1 + 1)
+    matched_here start is = free_next key items i same (IsUnmatched (operations key)) (λ b f. f.read) free within
+        (λ f. let (w, only) = h.slots (get_or items i no_op).value (Some start) (slot_here (Some start) is) in f.unwritten w only.is)
+
+  module _ (free : IsFreeTo (IsEarly (operations key)) (operations key) (i + 1)) where
+    -- a read that has finished before its write starts is early
+    pub early_here : (start : ℕ) → IsRead (get_or items i no_op) → get_or starts (get_or items i no_op).value None ≡ Some start → latest_finish (get_or items i no_op) < start
+        → IsLeastRecord (IsEarly (operations key)) (get_or items i no_op).rec
+    early_here start kind is less =
+        let (w, only) = h.slots (get_or items i no_op).value (Some start) (slot_here (Some start) is) in
+        let e = only.start_is in
+        least_here key items i same (IsEarly (operations key)) (λ b f. f.read) free within valid (record { read = read_here kind; before = (w, only.is, omega arith) })
+
+    -- any other is not
+    pub timely_here : (start : ℕ) → get_or starts (get_or items i no_op).value None ≡ Some start → start ≤ latest_finish (get_or items i no_op) → IsFreeTo (IsEarly (operations key)) (operations key) (i + 1 + 1)
+    timely_here start is le = free_next key items i same (IsEarly (operations key)) (λ b f. f.read) free within
+        (λ f.
+        let (w, only) = h.slots (get_or items i no_op).value (Some start) (slot_here (Some start) is) in
+        let (x, write, less) = f.before in
+        let e = only.start_is in
+        let g = ap earliest_start (only.only x write) in
+        omega arith)
+
+    -- nor is one whose slot is empty
+    pub unwritten_here : get_or starts (get_or items i no_op).value None ≡ None → IsFreeTo (IsEarly (operations key)) (operations key) (i + 1 + 1)
+    unwritten_here is = free_next key items i same (IsEarly (operations key)) (λ b f. f.read) free within
+        (λ f. let (w, write, less) = f.before in h.slots (get_or items i no_op).value None (slot_here None is) w write)

@@ -1,5 +1,5 @@
 //! The fault of a key: which operation is wrong whatever the order.
-ghost use Rattle.std.specs.Prelude.{◌≡◌, IfOk, MatchOption};
+ghost use Rattle.std.specs.Prelude.{IfOk, MatchOption};
 ghost use Rattle.stale_model.specs.Operations.{operations};
 ghost use Rattle.stale_model.specs.Valid.{IsValidKey};
 ghost use Rattle.stale_model.specs.Faults.{IsLeastRecord, HasNone, IsUnmatched, IsEarly};

@@ -1,82 +1,46 @@
-use Rattle.std.proofs.Common.{length, get_or, ℕ, ◌+◌, Some, None, arith, ap}
-use Rattle.std.specs.Prelude.{Contains}
-use Rattle.stale_model.specs.declared.Op.{Op}
-use Rattle.stale_model.specs.declared.KeyOps.{KeyOps}
+use Rattle.std.proofs.Common.{arith}
 use Rattle.stale_model.specs.Operations.{operations}
-use Rattle.stale_model.specs.Orders.{StandsAt}
 use Rattle.stale_model.specs.Faults.{IsEarly}
-use Rattle.stale_model.proofs.Places.{contains_at}
-use Rattle.cert_checker.proofs.InOrder.{no_op}
-use Rattle.cert_checker.proofs.FirstFaults.{stands_here, write_free, free_more, free_all, first_is_least}
-use Rattle.cert_checker.proofs.WriteStarts.{slot_is, early_here, timely_here, unwritten_here}
+use Rattle.cert_checker.proofs.FirstFaults.{free_write, free_all}
+use Rattle.cert_checker.proofs.WriteStarts.{early_here, timely_here, unwritten_here}
 use Rattle.cert_checker.proofs.faults.first_early.Goals as goal
 use Rattle.cert_checker.proofs.faults.first_early.Goals.{in-Read-Some+else-latest_finish-start, in-Read-None, in-Write-default}
 
 pub returns-then-latest_finish-start : goal.returns-then-latest_finish-start
 returns-then-latest_finish-start c =
+    let inv = c.loop-op.invariant in
     let finish = c.latest_finish.ensures in
     let less = c.if-latest_finish-start.true in
-    first_is_least key c.requires.valid (IsEarly (operations key)) (λ b f. f.read.there) n a c.loop-op.invariant.free at
-    (early_here key c.args.starts.now c.requires.starts a c.in-Read-Some.start (record { there = there; kind = c.in-Read-Some.is-0 })
-    (slot_is key c.requires.valid c.args.starts.now a (Some c.in-Read-Some.start) c.requires.starts.size there c.in-Read-Some.is-1) (omega arith))
-  where
-    key : KeyOps
-    key = c.args.key.now
-
-    n : ℕ
-    n = c.loop-op.op-index + 1
-
-    a : Op
-    a = get_or c.as_slice-op-items.result.now c.loop-op.op-index no_op
-
-    at : StandsAt (operations key) n a
-    at = stands_here c.as_slice-op-items.result.now key c.loop-op.op-index no_op c.loop-op.invariant.ops c.loop-op-test.true
-
-    there : Contains (operations key) a
-    there = contains_at (operations key) n a at
+    early_here c.args.key.now c.requires.valid c.args.starts.now c.requires.starts c.as_slice-op-items.result.now c.loop-op.op-index inv.ops c.loop-op-test.true
+    inv.free c.in-Read-Some.start c.in-Read-Some.is-0 c.in-Read-Some.is-1 (omega arith)
 
 pub loop-op-preserved : goal.loop-op-preserved
-loop-op-preserved c = elim c.match-op.branch [
-  | in-Read-Some+else-latest_finish-start w ↦ record {
-    ops = c.loop-op.invariant.ops;
-    free =
-        let finish = w.latest_finish.ensures in
-        let more = w.if-latest_finish-start.false in
-        free_more (IsEarly (operations key)) (operations key) n a c.loop-op.invariant.free at
-        (timely_here key c.args.starts.now c.requires.starts a w.in-Read-Some.start
-        (slot_is key c.requires.valid c.args.starts.now a (Some w.in-Read-Some.start) c.requires.starts.size there w.in-Read-Some.is-1) (omega arith));
-  }
-  | in-Read-None w ↦ record {
-    ops = c.loop-op.invariant.ops;
-    free = free_more (IsEarly (operations key)) (operations key) n a c.loop-op.invariant.free at
-        (unwritten_here key c.args.starts.now c.requires.starts a
-        (slot_is key c.requires.valid c.args.starts.now a None c.requires.starts.size there w.in-Read-None.is-1));
-  }
-  | in-Write-default w ↦ record {
-    ops = c.loop-op.invariant.ops;
-    free = free_more (IsEarly (operations key)) (operations key) n a c.loop-op.invariant.free at
-        (write_free (IsEarly (operations key)) (operations key) (λ b f. f.read) a w.in-Write-default.is-0);
-  }
-]
-  where
-    key : KeyOps
-    key = c.args.key.now
-
-    n : ℕ
-    n = c.loop-op.op-index + 1
-
-    a : Op
-    a = get_or c.as_slice-op-items.result.now c.loop-op.op-index no_op
-
-    at : StandsAt (operations key) n a
-    at = stands_here c.as_slice-op-items.result.now key c.loop-op.op-index no_op c.loop-op.invariant.ops c.loop-op-test.true
-
-    there : Contains (operations key) a
-    there = contains_at (operations key) n a at
+loop-op-preserved c =
+    let key = c.args.key.now in
+    let starts = c.args.starts.now in
+    let items = c.as_slice-op-items.result.now in
+    let i = c.loop-op.op-index in
+    let inv = c.loop-op.invariant in
+    elim c.match-op.branch [
+      | in-Read-Some+else-latest_finish-start w ↦ record {
+        ops = inv.ops;
+        free =
+            let finish = w.latest_finish.ensures in
+            let more = w.if-latest_finish-start.false in
+            timely_here key c.requires.valid starts c.requires.starts items i inv.ops c.loop-op-test.true inv.free w.in-Read-Some.start w.in-Read-Some.is-1 (omega arith);
+      }
+      | in-Read-None w ↦ record {
+        ops = inv.ops;
+        free = unwritten_here key c.requires.valid starts c.requires.starts items i inv.ops c.loop-op-test.true inv.free w.in-Read-None.is-1;
+      }
+      | in-Write-default w ↦ record {
+        ops = inv.ops;
+        free = free_write key items i inv.ops (IsEarly (operations key)) (λ b f. f.read) inv.free c.loop-op-test.true w.in-Write-default.is-0;
+      }
+    ]
 
 pub returns : goal.returns
 returns c =
     let key = c.args.key.now in
-    let long = ap length c.loop-op.invariant.ops in
-    let past = c.loop-op-test.false in
-    free_all (IsEarly (operations key)) (operations key) (c.loop-op.op-index + 1) (λ b f. f.read.there) (omega arith) c.loop-op.invariant.free
+    let inv = c.loop-op.invariant in
+    free_all key c.as_slice-op-items.result.now c.loop-op.op-index inv.ops (IsEarly (operations key)) (λ b f. f.read) inv.free c.loop-op-test.false
