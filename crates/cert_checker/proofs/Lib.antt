@@ -10,3 +10,5 @@ pub mod StaleKey
 pub mod ExactKeys
 pub mod KeyStates
 pub mod EachKey
+pub mod FirstFaults
+pub mod WriteStarts
