@@ -1,5 +1,5 @@
 -- Verdicts that are shown have chains, so that they have a text.
-use Rattle.std.proofs.Common.{◌≡◌, ℕ, List, length, true}
+use Rattle.std.proofs.Common.{◌≡◌, ℕ, List, length, true, arith}
 use Rattle.std.specs.Prelude.{IsTrue, Contains}
 use Rattle.std.specs.List.{list_all}
 use Rattle.stale_model.specs.declared.KeyOps.{KeyOps}

@@ -159,6 +159,15 @@ module _ (words : List (List ℕ)) (task : Task) (named : task_of words ≡ Some
       rw hist refl
   performed_told f is (Check file cert) status.Done p = asks_by_verdicts f file cert s n p.h p.verdicts status.Done is p.inputs (inl (refl, p.shown))
   performed_told f is (Check file cert) status.NotShown p = asks_by_verdicts f file cert s n p.h p.verdicts status.NotShown is p.inputs (inr (refl, p.not_shown))
+  performed_told f is (Audit file cert workers) status.NotShown p = absurd p
+  performed_told f is t status.WordsRefused p = absurd p
+  performed_told f is t status.HistoryRefused p = absurd p
+  performed_told f is t status.CertRefused p = absurd p
+  performed_told f is t status.Missing p = absurd p
+  performed_told f is t status.ReadFailed p = absurd p
+  performed_told f is t status.WriteFailed p = absurd p
+  performed_told f is t status.TooLong p = absurd p
+  performed_told f is t status.OutOfMemory p = absurd p
 
   -- a refusal has the status that the contents ask for, or want of memory
   pub refused_complete : (r : Refusal) (answer : Status) → IsRefused task s n o o' r → Answers r answer e e' → IsComplete words (outside s o e) (outside n o' e') (number answer)

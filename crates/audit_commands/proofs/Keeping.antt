@@ -39,7 +39,9 @@ keeps_reading output s m reads quiet = record {
 keeps_file : (name text : List ℕ) (m n : Shown) → WritesFile name text m n → KeepsShelf (Some name) m n
 keeps_file name text m n w =
     let c = w.counts in
-    let (r, f, k) = (c.read_faults, c.write_faults, c.misses) in
+    let r = c.read_faults in
+    let f = c.write_faults in
+    let k = c.misses in
     record {
       files = others_of_sets name text m.files n.files w.files;
       read_faults = omega arith;
@@ -51,7 +53,8 @@ keeps_file name text m n w =
 keeps_file_part : (name text : List ℕ) (m n : Shown) → WritesFilePart name text m n → KeepsShelf (Some name) m n
 keeps_file_part name text m n w =
     let f = w.fails in
-    let (r, k) = (f.read_faults, f.misses) in
+    let r = f.read_faults in
+    let k = f.misses in
     record {
       files = elim w.files [
         | inl same ↦ subst (KeepsOthers (Some name) m.files) (sym same) (others_same (Some name) m.files)
@@ -77,22 +80,16 @@ keeps_part (Some name) text m n w = keeps_file_part name text m n w
 pub keeps_after : (output : Option (List ℕ)) (s m n : Shown) → OnlyReads s m → KeepsShelf output m n → KeepsShelf output s n
 keeps_after output s m n reads k =
     let r = reads.keeps in
-    let (a, b, c) = (r.read_faults, r.write_faults, r.misses) in
-    let (d, e, f) = (k.read_faults, k.write_faults, k.misses) in
+    let a = r.read_faults in
+    let b = r.write_faults in
+    let c = r.misses in
+    let d = k.read_faults in
+    let e = k.write_faults in
+    let f = k.misses in
     record {
       files = subst (λ o. KeepsOthers output o n.files) r.files k.files;
       read_faults = omega arith;
       write_faults = omega arith;
       misses = omega arith;
       writing = k.writing;
-    }
-
--- reading twice
-pub reads_after : (s m n : Shown) → OnlyReads s m → OnlyReads m n → OnlyReads s n
-reads_after s m n p q =
-    let (a, b, c) = (p.keeps.read_faults, p.keeps.write_faults, p.keeps.misses) in
-    let (d, e, f) = (q.keeps.read_faults, q.keeps.write_faults, q.keeps.misses) in
-    record {
-      keeps = record { files = q.keeps.files ∙ p.keeps.files; read_faults = omega arith; write_faults = omega arith; misses = omega arith };
-      writing = q.writing ∙ p.writing;
     }

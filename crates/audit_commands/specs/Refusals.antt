@@ -1,6 +1,5 @@
 -- Definitions that serve the code alone: the refusals of a command, what shows each, and what is said of it.
-use Rattle.std.specs.Prelude.{◌≡◌, ◌≢◌, ◌⊎◌, ⊤, ℕ, ◌≤◌, String, List, length, Option, Some, None, Ok, Err, Result, IfOk, IfErr}
-use Rattle.std.specs.String.{string_bytes}
+use Rattle.std.specs.Prelude.{◌≡◌, ◌≢◌, ◌⊎◌, ⊤, ℕ, ◌≤◌, List, length, Option, Some, None, Ok, Err, Result, IfOk, IfErr}
 use Rattle.stale_model.specs.declared.History.{History}
 use Rattle.stale_model.specs.declared.Verdict.{Verdict}
 use Rattle.history_csv.specs.Header.{IsColumn}
@@ -155,11 +154,6 @@ WritesAudit cert h verdicts old new out out' (Err _) = ⊥
 pub record Says (status : Status) (line : List ℕ) (result : Status) (old new : SinkShown) : Type 0 where
   pub status_is : result ≡ status
   pub says : SaysLine line old new
-
--- the line that was made is said with this status, or there was no memory for it
-abbrev pub SaysLineOf : {E : Type 0} → Result String E → Status → Status → SinkShown → SinkShown → Type 0
-SaysLineOf (Ok line) status_is result old new = Says status_is (string_bytes line) result old new
-SaysLineOf (Err e) status_is result old new = Says status.OutOfMemory memory_line result old new
 
 -- a fault with this line is answered with it and this status, or as want of memory
 abbrev pub SaysFault : Option (List ℕ) → Status → Status → SinkShown → SinkShown → Type 0

@@ -62,8 +62,13 @@ abbrev pub status_of_check : Checked → Status
 status_of_check checked.Good = status.Done
 status_of_check (checked.Bad key rule rec) = status.NotShown
 
+-- the check of a task found a verdict that isn't shown
+abbrev pub FindsNotShown : Task → Shown → Shown → SinkShown → SinkShown → Type 0
+FindsNotShown (Audit file cert workers) old new out out' = ⊥
+FindsNotShown (Check file cert) old new out out' = CheckFails file cert old new out out'
+
 -- what was done of a task, by the status
 abbrev pub Performs : Task → Shown → Shown → SinkShown → SinkShown → Status → Type 0
 Performs task old new out out' status.Done = IsDone task old new out out'
-Performs (Check file cert) old new out out' status.NotShown = CheckFails file cert old new out out'
+Performs task old new out out' status.NotShown = FindsNotShown task old new out out'
 Performs task old new out out' _ = ⊥

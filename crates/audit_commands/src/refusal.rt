@@ -1,13 +1,13 @@
 //! Why a command is refused, with the line and the status of each refusal.
 
-ghost use Rattle.std.specs.Prelude.{◌≡◌, ◌++◌, Some, IfOk, codes};
+ghost use Rattle.std.specs.Prelude.{◌≡◌, ◌++◌, Some, IfOk, OnErr, codes};
 ghost use Rattle.std.specs.String.{string_bytes};
 ghost use Rattle.history_csv.specs.Header.{IsColumn};
 ghost use Rattle.std.specs.Prelude.{◌≢◌};
 ghost use Rattle.history_csv.specs.declared.HistoryFault.{HistoryFault};
 ghost use Rattle.cert_text.specs.declared.CertFault.{CertFault};
 ghost use Rattle.audit_commands.specs.Lines.{record_line, fault_line, cert_line, cert_fault_line, memory_line};
-ghost use Rattle.audit_commands.specs.Refusals.{HasLine, CanBeSaid, Says, SaysLineOf, Answers};
+ghost use Rattle.audit_commands.specs.Refusals.{HasLine, CanBeSaid, Says, Answers};
 ghost use Rattle.audit_commands.specs.Status.{number};
 ghost use Rattle.staleness_report.specs.Escaped.{escaped};
 
@@ -217,7 +217,10 @@ pub(crate) fn end_without_memory<E: Sink>(err: &mut E) -> Status
 
 // Says which fault an input has, by its line, if there was memory for it, and gives the status.
 fn end_by_fault<E: Sink>(line: Result<String, AllocError>, status: Status, err: &mut E) -> Status
-    ensures { SaysLineOf line status result (E.shown err.old) (E.shown err.new) }
+    ensures said { IfOk line (λ line.
+        Says status (string_bytes line) result (E.shown err.old) (E.shown err.new)) }
+    ensures unsaid { OnErr line
+        (Says Status.OutOfMemory memory_line result (E.shown err.old) (E.shown err.new)) }
 {
     match line {
         Ok(line) => end(err, line.as_bytes(), status),
