@@ -107,7 +107,7 @@ fn kind_fault(state: State, verdict: &Verdict) -> Option<u32>
     }
 }
 
-// Whether delta is 0 where the four records aren't there, and they hold at delta - 1 where they are.
+// Whether the four records are there exactly where delta is above 0, and hold at delta - 1.
 fn four_shows(delta: u64, key: &KeyOps, four: &Option<Four>) -> bool
     requires { IsValidKey key.now }
     ensures { IsTrue result ↔ FourShow (operations key.now) delta four.now }

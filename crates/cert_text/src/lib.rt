@@ -87,7 +87,7 @@ pub fn shown_verdicts_have_chains()
     ensures { ShownHaveChains }
 {}
 
-/// The numbers of a verdict that is shown of a valid key fit their types.
+/// The numbers of a verdict that is shown of a valid key fit their types, where the records of its operations do.
 pub fn shown_verdicts_fit()
     ensures { ShownFit }
 {}
