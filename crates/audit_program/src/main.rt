@@ -2,8 +2,9 @@
 //! commands, and ends with the status that they give.
 #![tactic(auto)]
 
-use audit_commands::{Word, refuse_for_memory, run_offline};
+use audit_commands::{refuse_for_memory, run_offline};
 use audit_ports::{OpenGate, RealShelf, RealSink};
+use audit_words::Word;
 use stale_model::Memory;
 use std::env;
 use std::io::ErrorKind;

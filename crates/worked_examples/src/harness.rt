@@ -2,8 +2,9 @@
 
 ghost use Rattle.std.specs.Prelude.{◌<◌};
 
-use audit_commands::{Word, run_offline};
+use audit_commands::run_offline;
 use audit_ports::{Failed, Gate, MemoryShelf, MemorySink, OpenFault, OpenGate, Shelf};
+use audit_words::Word;
 use stale_model::{Bytes, List};
 use std::alloc::{AllocError, Global};
 use std::process::Abort;
