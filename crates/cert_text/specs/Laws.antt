@@ -65,6 +65,6 @@ TextReadsBack =
 abbrev pub ShownHaveChains : Type 0
 ShownHaveChains = (ops : List Op) (v : Verdict) → IsShown ops v → IsTrue (has_chains v)
 
--- a verdict that is shown of a valid key fits its types; that each record is below 2 ^ 32 is what its own type in the operation gives
+-- a verdict that is shown of a valid key fits; that records are below 2 ^ 32 is given by the type of each operation
 abbrev pub ShownFit : Type 0
 ShownFit = (key : KeyOps) (v : Verdict) → IsValidKey key → All (λ a. a.rec < 2 ^ 32) key.ops → IsShown (operations key) v → IsTrue (fits v)
