@@ -4,4 +4,5 @@ pub mod OrderFaults
 pub mod RefutationFaults
 pub mod KeyFaults
 pub mod Steps
+pub mod RefutationSteps
 pub mod Laws

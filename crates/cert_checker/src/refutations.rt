@@ -1,14 +1,302 @@
 //! Refutations of 2-atomicity: members that are writes, and a try for each.
-ghost use Rattle.std.specs.Prelude.{IfOk};
-ghost use Rattle.stale_model.specs.Operations.{operations};
+ghost use Rattle.std.specs.Prelude.{◌≡◌, ◌+◌, ◌^◌, ◌<◌, ◌≤◌, ◌↔◌, ℕ, List, All, IfOk, IsTrue, length};
+ghost use Rattle.stale_model.specs.Operations.{operations, latest_finish};
 ghost use Rattle.stale_model.specs.Valid.{IsValidKey};
 ghost use Rattle.stale_model.specs.Faults.{IsMatchedKey};
+ghost use Rattle.stale_model.specs.Refutations.{EndHolds, TryHolds};
 ghost use Rattle.cert_checker.specs.RefutationFaults.{IsRefutationCheck, FindsRefutation};
+ghost use Rattle.cert_checker.specs.RefutationSteps.{with_op, AreSpans, FindsWritten, FindsMembers, AreMembers, FindsMember, FindsEnd, IsWalked, FindsUnplaced, FindsFailed};
 
 use crate::Found;
-use crate::records::Hints;
-use stale_model::{KeyOps, Memory, Refutation};
+use crate::records::{Hints, precedes};
+use stale_model::{End, INITIAL_WRITE, KeyOps, Kind, Memory, Op, Refutation, Try};
 use std::alloc::Global;
+
+// When the operations of one value finish and its reads start.
+#[derive(Clone, Copy)]
+struct Span {
+    // The least latest finish of the operations; the greatest tick where there is none.
+    finish: u64,
+    // The greatest earliest start of the reads; 0 where there is none.
+    start: u64,
+}
+
+impl Span {
+    // One more operation.
+    fn with(&self, op: &Op) -> Span
+        requires { latest_finish op.now < 2 ^ 64 }
+        ensures { result ≡ with_op self.now op.now }
+    {
+        let finish = self.finish.min(op.latest_finish());
+        let start = match op.kind {
+            Kind::Read => self.start.max(op.earliest_start()),
+            Kind::Write => self.start,
+        };
+        Span { finish, start }
+    }
+
+    // Whether some operation of this value precedes a read of the next one at d.
+    fn forces(&self, d: u64, next: &Span) -> bool
+        ensures { IsTrue result ↔ (self.now.finish + d < next.now.start) }
+    {
+        next.start.saturating_sub(self.finish) > d
+    }
+}
+
+// The span of each value.
+fn spans_of(alloc: Global, key: &KeyOps) -> Result<Vec<Span>, Memory>
+    requires { IsValidKey key.now }
+    ensures spans {
+        IfOk result (λ spans. AreSpans (operations key.now) (length (operations key.now)) spans.items)
+    }
+    ensures size { IfOk result (λ spans. length spans.items ≡ length key.now.values + 1) }
+{
+    let slots = key.values.as_slice().len() + 1;
+    let none = Span {
+        finish: u64::MAX,
+        start: 0,
+    };
+    let mut spans = vec![in alloc; none; slots].map_err(|_| Memory)?;
+    spans[0] = none.with(&INITIAL_WRITE);
+    for op in key.ops.as_slice() {
+        let value = op.value as usize;
+        spans[value] = spans[value].with(op);
+    }
+    Ok(spans)
+}
+
+// The value of the write with this record, if there is one.
+fn written_value(key: &KeyOps, hints: &Hints, rec: u32) -> Option<usize>
+    requires { IsValidKey key.now }
+    ensures { FindsWritten (operations key.now) rec result }
+{
+    let found = hints.find(key, rec)?;
+    match found.op.kind {
+        Kind::Write => Some(found.op.value as usize),
+        Kind::Read => None,
+    }
+}
+
+// What the entries of `stuck` are.
+#[derive(Drop)]
+enum Members {
+    // The first that is the record of no write, or stood before.
+    Stranger { rec: u32 },
+    // All are records of writes, each once: a mark for each of their values.
+    Marks(Vec<bool>),
+}
+
+// The entries of `stuck`.
+fn members_of(
+    alloc: Global,
+    key: &KeyOps,
+    hints: &Hints,
+    stuck: &[u32],
+) -> Result<Members, Memory>
+    requires valid { IsValidKey key.now }
+    requires matched { IsMatchedKey (operations key.now) }
+    ensures {
+        IfOk result (FindsMembers (operations key.now) (length key.now.values + 1) stuck.now)
+    }
+{
+    let slots = key.values.as_slice().len() + 1;
+    let mut marks = vec![in alloc; false; slots].map_err(|_| Memory)?;
+    for rec in stuck {
+        match written_value(key, hints, *rec) {
+            Some(value) if !marks[value] => marks[value] = true,
+            _ => return Ok(Members::Stranger { rec: *rec }),
+        }
+    }
+    Ok(Members::Marks(marks))
+}
+
+// What each try is checked against: a refutation of a key at d, with the members' marks and the spans by value.
+#[derive(Clone, Copy)]
+struct Case<'a> {
+    d: u64,
+    key: &'a KeyOps,
+    hints: &'a Hints,
+    refutation: &'a Refutation,
+    members: &'a [bool],
+    spans: &'a [Span],
+}
+
+impl Case<'_> {
+    // The value of the member with this record, if there is one.
+    fn member_value(&self, rec: u32) -> Option<usize>
+        requires valid { IsValidKey self.now.key.now }
+        requires size { length self.now.members.now ≡ length self.now.key.now.values + 1 }
+        requires members {
+            AreMembers (operations self.now.key.now) self.now.refutation.now.stuck self.now.members.now
+        }
+        ensures {
+            FindsMember (operations self.now.key.now) self.now.refutation.now.stuck rec result
+        }
+    {
+        match written_value(self.key, self.hints, rec) {
+            Some(value) if self.members[value] => Some(value),
+            _ => None,
+        }
+    }
+
+    // Walks a chain, and gives its last value where it is one of members, each once and each forced by the one before
+    // it. Its values get this mark, which is greater than those of the chains before.
+    fn chain_end(&self, marks: &mut [usize], mark: usize, chain: &[u32]) -> Option<usize>
+        requires valid { IsValidKey self.now.key.now }
+        requires matched { IsMatchedKey (operations self.now.key.now) }
+        requires size { length self.now.members.now ≡ length self.now.key.now.values + 1 }
+        requires members {
+            AreMembers (operations self.now.key.now) self.now.refutation.now.stuck self.now.members.now
+        }
+        requires spans_size { length self.now.spans.now ≡ length self.now.key.now.values + 1 }
+        requires spans {
+            AreSpans (operations self.now.key.now) (length (operations self.now.key.now)) self.now.spans.now
+        }
+        requires marks_size { length marks.old ≡ length self.now.key.now.values + 1 }
+        requires earlier { All (λ m. m < mark) marks.old }
+        ensures end {
+            FindsEnd
+                (operations self.now.key.now) self.now.d self.now.refutation.now.stuck chain.now marks.new mark result
+        }
+        ensures marked { All (λ m. m ≤ mark) marks.new }
+    {
+        let mut last: Option<usize> = None;
+        for rec in chain {
+            let value = self.member_value(*rec)?;
+            if marks[value] == mark {
+                return None;
+            }
+            if let Some(before) = last {
+                if !self.spans[before].forces(self.d, &self.spans[value]) {
+                    return None;
+                }
+            }
+            marks[value] = mark;
+            last = Some(value);
+        }
+        last
+    }
+
+    // The operation x, of a member whose value doesn't have this mark, where p, an operation of this value, precedes it.
+    fn unplaced(&self, marks: &[usize], mark: usize, value: usize, p: u32, x: u32) -> Option<Op>
+        requires valid { IsValidKey self.now.key.now }
+        requires matched { IsMatchedKey (operations self.now.key.now) }
+        requires size { length self.now.members.now ≡ length self.now.key.now.values + 1 }
+        requires members {
+            AreMembers (operations self.now.key.now) self.now.refutation.now.stuck self.now.members.now
+        }
+        requires marks_size { length marks.now ≡ length self.now.key.now.values + 1 }
+        ensures {
+            (chain : List ℕ) (c : ℕ) → IsWalked (operations self.now.key.now) chain marks.now mark value c
+            → FindsUnplaced
+                (operations self.now.key.now) self.now.d self.now.refutation.now.stuck chain c p x result
+        }
+    {
+        let a = self.hints.find(self.key, p)?.op;
+        let b = self.hints.find(self.key, x)?.op;
+        let other = b.value as usize;
+        if a.value as usize == value
+            && self.members[other]
+            && marks[other] != mark
+            && precedes(self.d, &a, &b)
+        {
+            Some(b)
+        } else {
+            None
+        }
+    }
+
+    // Whether the end of a chain holds, whose values have this mark, the last of them this one.
+    fn end_holds(&self, marks: &[usize], mark: usize, value: usize, end: &End) -> bool
+        requires valid { IsValidKey self.now.key.now }
+        requires matched { IsMatchedKey (operations self.now.key.now) }
+        requires size { length self.now.members.now ≡ length self.now.key.now.values + 1 }
+        requires members {
+            AreMembers (operations self.now.key.now) self.now.refutation.now.stuck self.now.members.now
+        }
+        requires marks_size { length marks.now ≡ length self.now.key.now.values + 1 }
+        ensures {
+            (chain : List ℕ) (c : ℕ) → IsWalked (operations self.now.key.now) chain marks.now mark value c
+            → IsTrue result ↔ EndHolds
+                (operations self.now.key.now) self.now.d self.now.refutation.now.stuck chain c end.now
+        }
+    {
+        match end {
+            End::Hard { p, u } => match self.unplaced(marks, mark, value, *p, *u) {
+                Some(b) => b.kind == Kind::Write,
+                None => false,
+            },
+            End::Soft { p, q, q2 } => {
+                let Some(b) = self.unplaced(marks, mark, value, *p, *q) else {
+                    return false;
+                };
+                let Some(b2) = self.unplaced(marks, mark, value, *p, *q2) else {
+                    return false;
+                };
+                b.kind == Kind::Read && b2.kind == Kind::Read && b.value != b2.value
+            }
+        }
+    }
+
+    // Whether the try of a member holds. The marks are less than this one before, and no greater afterwards.
+    fn try_holds(&self, marks: &mut [usize], mark: usize, member: u32, attempt: &Try) -> bool
+        requires valid { IsValidKey self.now.key.now }
+        requires matched { IsMatchedKey (operations self.now.key.now) }
+        requires size { length self.now.members.now ≡ length self.now.key.now.values + 1 }
+        requires members {
+            AreMembers (operations self.now.key.now) self.now.refutation.now.stuck self.now.members.now
+        }
+        requires spans_size { length self.now.spans.now ≡ length self.now.key.now.values + 1 }
+        requires spans {
+            AreSpans (operations self.now.key.now) (length (operations self.now.key.now)) self.now.spans.now
+        }
+        requires marks_size { length marks.old ≡ length self.now.key.now.values + 1 }
+        requires earlier { All (λ m. m < mark) marks.old }
+        ensures holds {
+            IsTrue result ↔ TryHolds
+                (operations self.now.key.now) self.now.d self.now.refutation.now.stuck member attempt.now
+        }
+        ensures marked { All (λ m. m ≤ mark) marks.new }
+    {
+        let chain = attempt.chain.as_slice();
+        match chain.first() {
+            Some(first) if *first == member => {}
+            _ => return false,
+        }
+        match self.chain_end(marks, mark, chain) {
+            Some(value) => self.end_holds(marks, mark, value, &attempt.end),
+            None => false,
+        }
+    }
+
+    // The member of the first try that doesn't hold.
+    fn first_failed(&self, alloc: Global) -> Result<Option<u32>, Memory>
+        requires valid { IsValidKey self.now.key.now }
+        requires matched { IsMatchedKey (operations self.now.key.now) }
+        requires size { length self.now.members.now ≡ length self.now.key.now.values + 1 }
+        requires members {
+            AreMembers (operations self.now.key.now) self.now.refutation.now.stuck self.now.members.now
+        }
+        requires spans_size { length self.now.spans.now ≡ length self.now.key.now.values + 1 }
+        requires spans {
+            AreSpans (operations self.now.key.now) (length (operations self.now.key.now)) self.now.spans.now
+        }
+        requires as_many { length self.now.refutation.now.tries ≡ length self.now.refutation.now.stuck }
+        ensures {
+            IfOk result (FindsFailed (operations self.now.key.now) self.now.d self.now.refutation.now)
+        }
+    {
+        let stuck = self.refutation.stuck.as_slice();
+        let mut marks = vec![in alloc; 0usize; self.members.len()].map_err(|_| Memory)?;
+        for (place, attempt) in self.refutation.tries.as_slice().iter().enumerate() {
+            let member = stuck[place];
+            if !self.try_holds(&mut marks, place + 1, member, attempt) {
+                return Ok(Some(member));
+            }
+        }
+        Ok(None)
+    }
+}
 
 /// The record that is named where the refutation doesn't hold at d.
 pub(crate) fn refutation_fault(
@@ -22,7 +310,24 @@ pub(crate) fn refutation_fault(
     requires matched { IsMatchedKey (operations key.now) }
     ensures { IfOk result (IsRefutationCheck (operations key.now) d refutation.now) }
 {
-    Err(Memory)
+    let stuck = refutation.stuck.as_slice();
+    let members = match members_of(alloc, key, hints, stuck)? {
+        Members::Stranger { rec } => return Ok(Some(rec)),
+        Members::Marks(marks) => marks,
+    };
+    if stuck.is_empty() || refutation.tries.as_slice().len() != stuck.len() {
+        return Ok(Some(0));
+    }
+    let spans = spans_of(alloc, key)?;
+    let case = Case {
+        d,
+        key,
+        hints,
+        refutation,
+        members: &members,
+        spans: &spans,
+    };
+    case.first_failed(alloc)
 }
 
 /// Whether a refutation holds, so that no order of all operations exists in which each read returns one of the last
