@@ -8,3 +8,5 @@ pub mod WholeOrders
 pub mod Exact
 pub mod StaleKey
 pub mod ExactKeys
+pub mod Written
+pub mod Spans

@@ -5,13 +5,15 @@ use Rattle.stale_model.specs.declared.Kind.{Kind}
 use Rattle.stale_model.specs.declared.Kind.TheVariants.{Read, Write}
 use Rattle.stale_model.specs.declared.Refutation.{Refutation}
 use Rattle.stale_model.specs.declared.Try.{Try}
-use Rattle.stale_model.specs.Operations.{IsRead, IsWrite, earliest_start, latest_finish}
-use Rattle.stale_model.specs.Faults.{IsWriteOf}
+use Rattle.stale_model.specs.Operations.{operations, IsRead, IsWrite, earliest_start, latest_finish}
+use Rattle.stale_model.specs.Faults.{IsWriteOf, IsMatchedKey}
+use Rattle.stale_model.specs.Valid.{IsValidKey}
 use Rattle.stale_model.specs.Orders.{StandsAt, IsWithoutRepeats}
 use Rattle.stale_model.specs.Refutations.{IsOfRecord, Forces, PrecedesUnplaced, TryHolds}
 use Rattle.cert_checker.specs.OrderFaults.{IsFirstWrong, StandsTo}
 use Rattle.cert_checker.specs.RefutationFaults.{IsStranger, IsFailedTry}
 use Rattle.cert_checker.specs.declared.refutations.Span.{Span}
+use Rattle.cert_checker.specs.declared.refutations.Case.{Case}
 use Rattle.cert_checker.specs.declared.refutations.Members.{Members}
 use Rattle.cert_checker.specs.declared.refutations.Members.TheVariants.{Stranger, Marks}
 
@@ -31,12 +33,20 @@ pub record IsOfValue (ops : List Op) (n value : ℕ) (a : Op) : Type 0 where
   pub there : StandsAt ops place a
   pub value_is : a.value ≡ value
 
--- the least latest finish of the operations of this value before place n, and the greatest earliest start of its reads
+-- the least latest finish of the operations of this value before place n, or the greatest tick
+pub record IsFinish (ops : List Op) (n value finish : ℕ) : Type 0 where
+  pub least : (a : Op) → IsOfValue ops n value a → finish ≤ latest_finish a
+  pub reached : (finish ≡ 2 ^ 64 - 1) ⊎ ((a : Op) × IsOfValue ops n value a × (latest_finish a ≡ finish))
+
+-- the greatest earliest start of the reads of this value before place n, or 0
+pub record IsStart (ops : List Op) (n value start : ℕ) : Type 0 where
+  pub greatest : (r : Op) → IsOfValue ops n value r → IsRead r → earliest_start r ≤ start
+  pub reached : (start ≡ 0) ⊎ ((r : Op) × IsOfValue ops n value r × IsRead r × (earliest_start r ≡ start))
+
+-- when the operations of this value before place n finish and its reads start
 pub record IsSpan (ops : List Op) (n value : ℕ) (span : Span) : Type 0 where
-  pub least : (a : Op) → IsOfValue ops n value a → span.finish ≤ latest_finish a
-  pub least_is : (span.finish ≡ 2 ^ 64 - 1) ⊎ ((a : Op) × IsOfValue ops n value a × (latest_finish a ≡ span.finish))
-  pub greatest : (r : Op) → IsOfValue ops n value r → IsRead r → earliest_start r ≤ span.start
-  pub greatest_is : (span.start ≡ 0) ⊎ ((r : Op) × IsOfValue ops n value r × IsRead r × (earliest_start r ≡ span.start))
+  pub finish : IsFinish ops n value span.finish
+  pub start : IsStart ops n value span.start
 
 -- each value has its span
 abbrev pub AreSpans : List Op → ℕ → List Span → Type 0
@@ -68,6 +78,22 @@ pub record AreMembers (ops : List Op) (stuck : List ℕ) (marks : List Bool) : T
 abbrev pub FindsMembers : List Op → ℕ → List ℕ → Members → Type 0
 FindsMembers ops slots stuck (Stranger rec) = IsFirstWrong (IsStranger ops stuck) stuck rec
 FindsMembers ops slots stuck (Marks marks) = AreMembers ops stuck marks.items × (length marks.items ≡ slots)
+
+-- the operations of a case, and its members
+abbrev pub case_ops : Case → List Op
+case_ops case = operations case.key.now
+
+abbrev pub case_stuck : Case → List ℕ
+case_stuck case = case.refutation.now.stuck
+
+-- the key of a case has no two writes of a value, and the marks and the spans are those of its values
+pub record IsCase (case : Case) : Type 0 where
+  pub valid : IsValidKey case.key.now
+  pub matched : IsMatchedKey (case_ops case)
+  pub members : AreMembers (case_ops case) (case_stuck case) case.members.now
+  pub members_size : length case.members.now ≡ length case.key.now.values + 1
+  pub spans : AreSpans (case_ops case) (length (case_ops case)) case.spans.now
+  pub spans_size : length case.spans.now ≡ length case.key.now.values + 1
 
 -- the value of the member with this record, or that there is none
 abbrev pub FindsMember : List Op → List ℕ → ℕ → Option ℕ → Type 0

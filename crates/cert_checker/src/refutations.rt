@@ -5,7 +5,7 @@ ghost use Rattle.stale_model.specs.Valid.{IsValidKey};
 ghost use Rattle.stale_model.specs.Faults.{IsMatchedKey};
 ghost use Rattle.stale_model.specs.Refutations.{EndHolds, TryHolds};
 ghost use Rattle.cert_checker.specs.RefutationFaults.{IsRefutationCheck, FindsRefutation};
-ghost use Rattle.cert_checker.specs.RefutationSteps.{with_op, AreSpans, FindsWritten, FindsMembers, AreMembers, FindsMember, FindsEnd, IsWalked, FindsUnplaced, FindsFailed};
+ghost use Rattle.cert_checker.specs.RefutationSteps.{with_op, AreSpans, FindsWritten, FindsMembers, case_ops, case_stuck, IsCase, FindsMember, FindsEnd, IsWalked, FindsUnplaced, FindsFailed};
 
 use crate::Found;
 use crate::records::{Hints, precedes};
@@ -124,14 +124,8 @@ struct Case<'a> {
 impl Case<'_> {
     // The value of the member with this record, if there is one.
     fn member_value(&self, rec: u32) -> Option<usize>
-        requires valid { IsValidKey self.now.key.now }
-        requires size { length self.now.members.now ≡ length self.now.key.now.values + 1 }
-        requires members {
-            AreMembers (operations self.now.key.now) self.now.refutation.now.stuck self.now.members.now
-        }
-        ensures {
-            FindsMember (operations self.now.key.now) self.now.refutation.now.stuck rec result
-        }
+        requires { IsCase self.now }
+        ensures { FindsMember (case_ops self.now) (case_stuck self.now) rec result }
     {
         match written_value(self.key, self.hints, rec) {
             Some(value) if self.members[value] => Some(value),
@@ -142,21 +136,11 @@ impl Case<'_> {
     // Walks a chain, and gives its last value where it is one of members, each once and each forced by the one before
     // it. Its values get this mark, which is greater than those of the chains before.
     fn chain_end(&self, marks: &mut [usize], mark: usize, chain: &[u32]) -> Option<usize>
-        requires valid { IsValidKey self.now.key.now }
-        requires matched { IsMatchedKey (operations self.now.key.now) }
-        requires size { length self.now.members.now ≡ length self.now.key.now.values + 1 }
-        requires members {
-            AreMembers (operations self.now.key.now) self.now.refutation.now.stuck self.now.members.now
-        }
-        requires spans_size { length self.now.spans.now ≡ length self.now.key.now.values + 1 }
-        requires spans {
-            AreSpans (operations self.now.key.now) (length (operations self.now.key.now)) self.now.spans.now
-        }
+        requires case { IsCase self.now }
         requires marks_size { length marks.old ≡ length self.now.key.now.values + 1 }
         requires earlier { All (λ m. m < mark) marks.old }
         ensures end {
-            FindsEnd
-                (operations self.now.key.now) self.now.d self.now.refutation.now.stuck chain.now marks.new mark result
+            FindsEnd (case_ops self.now) self.now.d (case_stuck self.now) chain.now marks.new mark result
         }
         ensures marked { All (λ m. m ≤ mark) marks.new }
     {
@@ -179,17 +163,11 @@ impl Case<'_> {
 
     // The operation x, of a member whose value doesn't have this mark, where p, an operation of this value, precedes it.
     fn unplaced(&self, marks: &[usize], mark: usize, value: usize, p: u32, x: u32) -> Option<Op>
-        requires valid { IsValidKey self.now.key.now }
-        requires matched { IsMatchedKey (operations self.now.key.now) }
-        requires size { length self.now.members.now ≡ length self.now.key.now.values + 1 }
-        requires members {
-            AreMembers (operations self.now.key.now) self.now.refutation.now.stuck self.now.members.now
-        }
+        requires case { IsCase self.now }
         requires marks_size { length marks.now ≡ length self.now.key.now.values + 1 }
         ensures {
-            (chain : List ℕ) (c : ℕ) → IsWalked (operations self.now.key.now) chain marks.now mark value c
-            → FindsUnplaced
-                (operations self.now.key.now) self.now.d self.now.refutation.now.stuck chain c p x result
+            (chain : List ℕ) (c : ℕ) → IsWalked (case_ops self.now) chain marks.now mark value c
+            → FindsUnplaced (case_ops self.now) self.now.d (case_stuck self.now) chain c p x result
         }
     {
         let a = self.hints.find(self.key, p)?.op;
@@ -208,17 +186,11 @@ impl Case<'_> {
 
     // Whether the end of a chain holds, whose values have this mark, the last of them this one.
     fn end_holds(&self, marks: &[usize], mark: usize, value: usize, end: &End) -> bool
-        requires valid { IsValidKey self.now.key.now }
-        requires matched { IsMatchedKey (operations self.now.key.now) }
-        requires size { length self.now.members.now ≡ length self.now.key.now.values + 1 }
-        requires members {
-            AreMembers (operations self.now.key.now) self.now.refutation.now.stuck self.now.members.now
-        }
+        requires case { IsCase self.now }
         requires marks_size { length marks.now ≡ length self.now.key.now.values + 1 }
         ensures {
-            (chain : List ℕ) (c : ℕ) → IsWalked (operations self.now.key.now) chain marks.now mark value c
-            → IsTrue result ↔ EndHolds
-                (operations self.now.key.now) self.now.d self.now.refutation.now.stuck chain c end.now
+            (chain : List ℕ) (c : ℕ) → IsWalked (case_ops self.now) chain marks.now mark value c
+            → IsTrue result ↔ EndHolds (case_ops self.now) self.now.d (case_stuck self.now) chain c end.now
         }
     {
         match end {
@@ -240,21 +212,11 @@ impl Case<'_> {
 
     // Whether the try of a member holds. The marks are less than this one before, and no greater afterwards.
     fn try_holds(&self, marks: &mut [usize], mark: usize, member: u32, attempt: &Try) -> bool
-        requires valid { IsValidKey self.now.key.now }
-        requires matched { IsMatchedKey (operations self.now.key.now) }
-        requires size { length self.now.members.now ≡ length self.now.key.now.values + 1 }
-        requires members {
-            AreMembers (operations self.now.key.now) self.now.refutation.now.stuck self.now.members.now
-        }
-        requires spans_size { length self.now.spans.now ≡ length self.now.key.now.values + 1 }
-        requires spans {
-            AreSpans (operations self.now.key.now) (length (operations self.now.key.now)) self.now.spans.now
-        }
+        requires case { IsCase self.now }
         requires marks_size { length marks.old ≡ length self.now.key.now.values + 1 }
         requires earlier { All (λ m. m < mark) marks.old }
         ensures holds {
-            IsTrue result ↔ TryHolds
-                (operations self.now.key.now) self.now.d self.now.refutation.now.stuck member attempt.now
+            IsTrue result ↔ TryHolds (case_ops self.now) self.now.d (case_stuck self.now) member attempt.now
         }
         ensures marked { All (λ m. m ≤ mark) marks.new }
     {
@@ -271,19 +233,10 @@ impl Case<'_> {
 
     // The member of the first try that doesn't hold.
     fn first_failed(&self, alloc: Global) -> Result<Option<u32>, Memory>
-        requires valid { IsValidKey self.now.key.now }
-        requires matched { IsMatchedKey (operations self.now.key.now) }
-        requires size { length self.now.members.now ≡ length self.now.key.now.values + 1 }
-        requires members {
-            AreMembers (operations self.now.key.now) self.now.refutation.now.stuck self.now.members.now
-        }
-        requires spans_size { length self.now.spans.now ≡ length self.now.key.now.values + 1 }
-        requires spans {
-            AreSpans (operations self.now.key.now) (length (operations self.now.key.now)) self.now.spans.now
-        }
+        requires case { IsCase self.now }
         requires as_many { length self.now.refutation.now.tries ≡ length self.now.refutation.now.stuck }
         ensures {
-            IfOk result (FindsFailed (operations self.now.key.now) self.now.d self.now.refutation.now)
+            IfOk result (FindsFailed (case_ops self.now) self.now.d self.now.refutation.now)
         }
     {
         let stuck = self.refutation.stuck.as_slice();
