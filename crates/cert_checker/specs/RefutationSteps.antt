@@ -68,9 +68,13 @@ pub record HaveMark {X : Type 0} (ops : List Op) (records : List ℕ) (n : ℕ) 
   pub marked : (value c : ℕ) → IsWrittenBy ops value c → StandsTo records n c → StandsAt marks value mark
   pub only : (value c : ℕ) → IsWrittenBy ops value c → StandsAt marks value mark → StandsTo records n c
 
+-- c is the record of a write
+abbrev pub IsWriteRecord : List Op → ℕ → Type 0
+IsWriteRecord ops c = (w : Op) × IsOfRecord ops c w × IsWrite w
+
 -- all members are writes, each once, and their values are marked
 pub record AreMembers (ops : List Op) (stuck : List ℕ) (marks : List Bool) : Type 0 where
-  pub writes : (c : ℕ) → Contains stuck c → (w : Op) × IsOfRecord ops c w × IsWrite w
+  pub writes : (c : ℕ) → Contains stuck c → IsWriteRecord ops c
   pub once : IsWithoutRepeats stuck
   pub marked : HaveMark ops stuck (length stuck) marks true
 
