@@ -1,12 +1,14 @@
 -- When the operations of a value finish and its reads start, and what that forces.
-use Rattle.std.proofs.Common.{◌≡◌, ◌≢◌, ◌⊎◌, inl, inr, ◌<◌, ◌≤◌, ◌+◌, ◌-◌, ◌^◌, ℕ, max, min, List, length, set, get_or, sym, ◌∙◌, ap, subst, arith}
+use Rattle.std.proofs.Common.{◌≡◌, ◌≢◌, ◌⊎◌, inl, inr, ◌<◌, ◌≤◌, ◌+◌, ◌-◌, ◌^◌, ℕ, max, min, List, length, set, get_or, replicate, refl, Some, sym, ◌∙◌, ap, subst, arith}
 use Rattle.std.specs.Prelude.{Contains}
 use Rattle.std.proofs.lemmas.Bool.{cases_eq}
+use Rattle.std.proofs.lemmas.List.{get_or-replicate, length-replicate}
+use Rattle.std.proofs.lemmas.Option.{slice_get-get_or, slice_get_within}
 use Rattle.stale_model.specs.declared.Op.{Op}
 use Rattle.stale_model.specs.declared.Kind.{Kind}
 use Rattle.stale_model.specs.declared.Kind.TheVariants.{Read, Write}
 use Rattle.stale_model.specs.declared.KeyOps.{KeyOps}
-use Rattle.stale_model.specs.Operations.{operations, IsRead, earliest_start, latest_finish}
+use Rattle.stale_model.specs.Operations.{operations, initial_write, IsRead, earliest_start, latest_finish}
 use Rattle.stale_model.specs.Valid.{IsValidKey}
 use Rattle.stale_model.specs.NamedWrites.{NamesItsWrites}
 use Rattle.stale_model.specs.Orders.{StandsAt}
@@ -124,6 +126,27 @@ module _ (ops : List Op) (n : ℕ) (a : Op) (at : StandsAt ops n a) where
           start = start_still value other.start (λ b of read e. apart_from value b apart of e) is.start;
         }
   ]
+
+abbrev pub no_times : Span
+no_times = record { finish = 2 ^ 64 - 1; start = 0 }
+
+-- the spans after the initial write
+pub first_spans : (key : KeyOps) (slots : ℕ) (spans : List Span) → 0 < slots → spans ≡ replicate slots no_times
+    → AreSpans (operations key) (0 + 1) (set spans 0 (with_op no_times initial_write))
+first_spans key slots spans some e =
+    spans_more (operations key) 0 initial_write refl spans no_times (let l = ap length e ∙ length-replicate slots no_times in omega arith)
+    (none_at 0 (let l = ap length e ∙ length-replicate slots no_times in omega arith)) none
+  where
+    none_at : (v : ℕ) → v < slots → StandsAt spans v no_times
+    none_at v low = subst (λ (xs : List Span). StandsAt xs v no_times) (sym e)
+        (slice_get-get_or (replicate slots no_times) v no_times (rw (length-replicate slots no_times) low) ∙ ap (λ x. Some x) (get_or-replicate slots v no_times no_times low))
+
+    none : AreSpans (operations key) 0 spans
+    none v span at =
+        let l = ap length e ∙ length-replicate slots no_times in
+        let w = slice_get_within spans v span at in
+        let same : span ≡ no_times = same_at spans v span no_times at (none_at v (omega arith)) in
+        subst (IsSpan (operations key) 0 v) (sym same) (no_span (operations key) v)
 
 -- what the spans of two values force
 module _ (key : KeyOps) (valid : IsValidKey key) (d value other c next : ℕ) (span after : Span)
