@@ -10,3 +10,4 @@ pub mod StaleKey
 pub mod ExactKeys
 pub mod Written
 pub mod Spans
+pub mod MemberMarks
