@@ -11,3 +11,5 @@ pub mod ExactKeys
 pub mod Written
 pub mod Spans
 pub mod MemberMarks
+pub mod ChainWalks
+pub mod Cases
