@@ -13,3 +13,4 @@ pub mod Spans
 pub mod MemberMarks
 pub mod ChainWalks
 pub mod Cases
+pub mod Unplaced

@@ -9,6 +9,7 @@ use Rattle.stale_model.specs.Operations.{operations, IsRead, IsWrite, earliest_s
 use Rattle.stale_model.specs.Faults.{IsWriteOf, IsMatchedKey}
 use Rattle.stale_model.specs.Valid.{IsValidKey}
 use Rattle.stale_model.specs.Orders.{StandsAt, IsWithoutRepeats}
+use Rattle.stale_model.specs.Precedence.{Precedes}
 use Rattle.stale_model.specs.Refutations.{IsOfRecord, Forces, PrecedesUnplaced, TryHolds}
 use Rattle.cert_checker.specs.OrderFaults.{IsFirstWrong, StandsTo}
 use Rattle.cert_checker.specs.RefutationFaults.{IsStranger, IsFailedTry}
@@ -121,6 +122,13 @@ pub record IsWalked (ops : List Op) (chain marks : List ℕ) (mark last c : ℕ)
 abbrev pub FindsEnd : List Op → ℕ → List ℕ → List ℕ → List ℕ → ℕ → Option ℕ → Type 0
 FindsEnd ops d stuck chain marks mark None = IsChain ops d stuck chain → ⊥
 FindsEnd ops d stuck chain marks mark (Some last) = IsChain ops d stuck chain × ((c : ℕ) × IsWalked ops chain marks mark last c)
+
+-- a, of this value, precedes b, of a member whose value doesn't have this mark
+pub record PrecedesUnmarked (d : ℕ) (members : List Bool) (marks : List ℕ) (mark value : ℕ) (a b : Op) : Type 0 where
+  pub of_value : a.value ≡ value
+  pub member : StandsAt members b.value true
+  pub unmarked : StandsAt marks b.value mark → ⊥
+  pub precedes : Precedes d a b
 
 -- x, of a cluster that the chain doesn't place, or that p, of the cluster of c, doesn't precede one
 abbrev pub FindsUnplaced : List Op → ℕ → List ℕ → List ℕ → ℕ → ℕ → ℕ → Option Op → Type 0

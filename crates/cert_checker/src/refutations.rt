@@ -5,7 +5,7 @@ ghost use Rattle.stale_model.specs.Valid.{IsValidKey};
 ghost use Rattle.stale_model.specs.Faults.{IsMatchedKey};
 ghost use Rattle.stale_model.specs.Refutations.{EndHolds, TryHolds};
 ghost use Rattle.cert_checker.specs.RefutationFaults.{IsRefutationCheck, FindsRefutation};
-ghost use Rattle.cert_checker.specs.RefutationSteps.{with_op, AreSpans, FindsWritten, FindsMembers, case_ops, case_stuck, IsCase, FindsMember, FindsEnd, IsWalked, FindsUnplaced, FindsFailed};
+ghost use Rattle.cert_checker.specs.RefutationSteps.{with_op, AreSpans, FindsWritten, FindsMembers, case_ops, case_stuck, IsCase, FindsMember, FindsEnd, IsWalked, PrecedesUnmarked, FindsUnplaced, FindsFailed};
 
 use crate::Found;
 use crate::records::{Hints, precedes};
@@ -161,6 +161,22 @@ impl Case<'_> {
         last
     }
 
+    // Whether a, an operation of this value, precedes b, of a member whose value doesn't have this mark.
+    fn precedes_unmarked(&self, marks: &[usize], mark: usize, value: usize, a: &Op, b: &Op) -> bool
+        requires members_size { b.now.value < length self.now.members.now }
+        requires marks_size { b.now.value < length marks.now }
+        requires ends { latest_finish a.now < 2 ^ 64 }
+        ensures {
+            IsTrue result ↔ PrecedesUnmarked self.now.d self.now.members.now marks.now mark value a.now b.now
+        }
+    {
+        let other = b.value as usize;
+        a.value as usize == value
+            && self.members[other]
+            && marks[other] != mark
+            && precedes(self.d, a, b)
+    }
+
     // The operation x, of a member whose value doesn't have this mark, where p, an operation of this value, precedes it.
     fn unplaced(&self, marks: &[usize], mark: usize, value: usize, p: u32, x: u32) -> Option<Op>
         requires case { IsCase self.now }
@@ -172,12 +188,7 @@ impl Case<'_> {
     {
         let a = self.hints.find(self.key, p)?.op;
         let b = self.hints.find(self.key, x)?.op;
-        let other = b.value as usize;
-        if a.value as usize == value
-            && self.members[other]
-            && marks[other] != mark
-            && precedes(self.d, &a, &b)
-        {
+        if self.precedes_unmarked(marks, mark, value, &a, &b) {
             Some(b)
         } else {
             None
