@@ -1,5 +1,5 @@
 -- What the steps of the check of a refutation find.
-use Rattle.std.specs.Prelude.{◌≡◌, ℕ, ◌⊎◌, ◌+◌, ◌-◌, ◌^◌, ◌<◌, ◌≤◌, max, min, true, Bool, List, length, Contains, Option, Some, None}
+use Rattle.std.specs.Prelude.{◌≡◌, ◌≢◌, ℕ, ◌⊎◌, ◌+◌, ◌-◌, ◌^◌, ◌<◌, ◌≤◌, max, min, true, Bool, List, length, Contains, Option, Some, None}
 use Rattle.stale_model.specs.declared.Op.{Op}
 use Rattle.stale_model.specs.declared.Kind.{Kind}
 use Rattle.stale_model.specs.declared.Kind.TheVariants.{Read, Write}
@@ -129,6 +129,12 @@ pub record PrecedesUnmarked (d : ℕ) (members : List Bool) (marks : List ℕ) (
   pub member : StandsAt members b.value true
   pub unmarked : StandsAt marks b.value mark → ⊥
   pub precedes : Precedes d a b
+
+-- both are reads, of two values
+pub record AreReadsApart (a b : Op) : Type 0 where
+  pub first : IsRead a
+  pub second : IsRead b
+  pub apart : a.value ≢ b.value
 
 -- x, of a cluster that the chain doesn't place, or that p, of the cluster of c, doesn't precede one
 abbrev pub FindsUnplaced : List Op → ℕ → List ℕ → List ℕ → ℕ → ℕ → ℕ → Option Op → Type 0

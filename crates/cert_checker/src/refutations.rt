@@ -3,9 +3,9 @@ ghost use Rattle.std.specs.Prelude.{◌≡◌, ◌+◌, ◌^◌, ◌<◌, ◌≤
 ghost use Rattle.stale_model.specs.Operations.{operations, latest_finish};
 ghost use Rattle.stale_model.specs.Valid.{IsValidKey};
 ghost use Rattle.stale_model.specs.Faults.{IsMatchedKey};
-ghost use Rattle.stale_model.specs.Refutations.{EndHolds, TryHolds};
+ghost use Rattle.stale_model.specs.Refutations.{HardHolds, SoftHolds, EndHolds, TryHolds};
 ghost use Rattle.cert_checker.specs.RefutationFaults.{IsRefutationCheck, FindsRefutation};
-ghost use Rattle.cert_checker.specs.RefutationSteps.{with_op, AreSpans, FindsWritten, FindsMembers, case_ops, case_stuck, IsCase, FindsMember, FindsEnd, IsWalked, PrecedesUnmarked, FindsUnplaced, FindsFailed};
+ghost use Rattle.cert_checker.specs.RefutationSteps.{with_op, AreSpans, FindsWritten, FindsMembers, case_ops, case_stuck, IsCase, FindsMember, FindsEnd, IsWalked, PrecedesUnmarked, AreReadsApart, FindsUnplaced, FindsFailed};
 
 use crate::Found;
 use crate::records::{Hints, precedes};
@@ -110,6 +110,16 @@ fn members_of(
     Ok(Members::Marks(marks))
 }
 
+// Whether two operations are reads of two values.
+fn are_reads_apart(a: &Op, b: &Op) -> bool
+    ensures { IsTrue result ↔ AreReadsApart a.now b.now }
+{
+    match (a.kind, b.kind) {
+        (Kind::Read, Kind::Read) => a.value != b.value,
+        _ => false,
+    }
+}
+
 // What each try is checked against: a refutation of a key at d, with the members' marks and the spans by value.
 #[derive(Clone, Copy)]
 struct Case<'a> {
@@ -195,7 +205,51 @@ impl Case<'_> {
         }
     }
 
-    // Whether the end of a chain holds, whose values have this mark, the last of them this one.
+    // Whether p precedes the write u of a member that the chain doesn't place.
+    fn hard_holds(&self, marks: &[usize], mark: usize, value: usize, p: u32, u: u32) -> bool
+        requires case { IsCase self.now }
+        requires marks_size { length marks.now ≡ length self.now.key.now.values + 1 }
+        ensures {
+            (chain : List ℕ) (c : ℕ) → IsWalked (case_ops self.now) chain marks.now mark value c
+            → IsTrue result ↔ HardHolds (case_ops self.now) self.now.d (case_stuck self.now) chain c p u
+        }
+    {
+        match self.unplaced(marks, mark, value, p, u) {
+            Some(b) => match b.kind {
+                Kind::Read => false,
+                Kind::Write => true,
+            },
+            None => false,
+        }
+    }
+
+    // Whether p precedes the reads q and q2 of two members that the chain doesn't place.
+    fn soft_holds(
+        &self,
+        marks: &[usize],
+        mark: usize,
+        value: usize,
+        p: u32,
+        q: u32,
+        q2: u32,
+    ) -> bool
+        requires case { IsCase self.now }
+        requires marks_size { length marks.now ≡ length self.now.key.now.values + 1 }
+        ensures {
+            (chain : List ℕ) (c : ℕ) → IsWalked (case_ops self.now) chain marks.now mark value c
+            → IsTrue result ↔ SoftHolds (case_ops self.now) self.now.d (case_stuck self.now) chain c p q q2
+        }
+    {
+        let Some(a) = self.unplaced(marks, mark, value, p, q) else {
+            return false;
+        };
+        let Some(b) = self.unplaced(marks, mark, value, p, q2) else {
+            return false;
+        };
+        are_reads_apart(&a, &b)
+    }
+
+    // Whether the end of a chain holds, whose values have this mark, and whose last value is this one.
     fn end_holds(&self, marks: &[usize], mark: usize, value: usize, end: &End) -> bool
         requires case { IsCase self.now }
         requires marks_size { length marks.now ≡ length self.now.key.now.values + 1 }
@@ -205,19 +259,8 @@ impl Case<'_> {
         }
     {
         match end {
-            End::Hard { p, u } => match self.unplaced(marks, mark, value, *p, *u) {
-                Some(b) => b.kind == Kind::Write,
-                None => false,
-            },
-            End::Soft { p, q, q2 } => {
-                let Some(b) = self.unplaced(marks, mark, value, *p, *q) else {
-                    return false;
-                };
-                let Some(b2) = self.unplaced(marks, mark, value, *p, *q2) else {
-                    return false;
-                };
-                b.kind == Kind::Read && b2.kind == Kind::Read && b.value != b2.value
-            }
+            End::Hard { p, u } => self.hard_holds(marks, mark, value, *p, *u),
+            End::Soft { p, q, q2 } => self.soft_holds(marks, mark, value, *p, *q, *q2),
         }
     }
 
