@@ -14,3 +14,4 @@ pub mod MemberMarks
 pub mod ChainWalks
 pub mod Cases
 pub mod Unplaced
+pub mod Tries
