@@ -1,5 +1,5 @@
 -- Tries by what walking their chains finds.
-use Rattle.std.proofs.Common.{◌≡◌, ◌≢◌, ◌⊎◌, inl, inr, ◌<◌, ◌≤◌, ◌+◌, ◌-◌, ℕ, List, length, subst, below_more, arith}
+use Rattle.std.proofs.Common.{◌≡◌, ◌≢◌, ◌⊎◌, inl, inr, ◌<◌, ◌≤◌, ◌+◌, ◌-◌, ℕ, Bool, List, length, Option, Some, None, subst, arith}
 use Rattle.std.specs.Prelude.{Contains}
 use Rattle.std.proofs.lemmas.Option.{slice_get_within}
 use Rattle.stale_model.specs.declared.Op.{Op}
@@ -10,9 +10,10 @@ use Rattle.stale_model.specs.Orders.{StandsAt}
 use Rattle.stale_model.specs.Refutations.{EndHolds, TryHolds}
 use Rattle.stale_model.proofs.Places.{same_at}
 use Rattle.cert_checker.specs.OrderFaults.{IsFirstWrong}
-use Rattle.cert_checker.specs.RefutationFaults.{IsFailedTry}
-use Rattle.cert_checker.specs.RefutationSteps.{IsChain, IsWalked}
+use Rattle.cert_checker.specs.RefutationFaults.{IsFailedTry, IsRefutationCheck}
+use Rattle.cert_checker.specs.RefutationSteps.{AreMembers, IsChain, IsWalked, FindsFailed}
 use Rattle.cert_checker.proofs.InOrder.{not_below}
+use Rattle.cert_checker.proofs.MemberMarks.{no_strangers}
 use Rattle.cert_checker.proofs.Starts.{below_or_at}
 
 module _ (ops : List Op) (d : ℕ) (stuck : List ℕ) (member : ℕ) (attempt : Try) where
@@ -56,3 +57,16 @@ module _ (ops : List Op) (d : ℕ) (refutation : Refutation) (n member : ℕ) (a
         subst (λ m. TryHolds ops d refutation.stuck m try) (same_at refutation.stuck n member other member_is (subst (λ p. StandsAt refutation.stuck p other) e other_is))
         (subst (TryHolds ops d refutation.stuck member) (same_at refutation.tries n attempt try attempt_is (subst (λ p. StandsAt refutation.tries p try) e try_is)) holds)
   ]
+
+-- what is found of the tries, where members and their number are right
+pub check_from_tries : (ops : List Op) (d : ℕ) (refutation : Refutation) (marks : List Bool) → AreMembers ops refutation.stuck marks → 0 < length refutation.stuck
+    → length refutation.tries ≡ length refutation.stuck → (found : Option ℕ) → FindsFailed ops d refutation found → IsRefutationCheck ops d refutation found
+check_from_tries ops d refutation marks members some as_many None held = record {
+  some = some;
+  writes = members.writes;
+  once = members.once;
+  as_many = as_many;
+  each = held;
+}
+check_from_tries ops d refutation marks members some as_many (Some rec) failed =
+    inr (inr (record { no_stranger = no_strangers ops refutation.stuck marks members; as_many = as_many; failed = failed }))
