@@ -5,7 +5,7 @@ ghost use Rattle.stale_model.specs.Valid.{IsValidKey};
 ghost use Rattle.stale_model.specs.Faults.{IsMatchedKey};
 ghost use Rattle.stale_model.specs.Refutations.{HardHolds, SoftHolds, EndHolds, TryHolds};
 ghost use Rattle.cert_checker.specs.RefutationFaults.{IsRefutationCheck, FindsRefutation};
-ghost use Rattle.cert_checker.specs.RefutationSteps.{with_op, AreSpans, FindsWritten, FindsMembers, case_ops, case_stuck, IsCase, FindsMember, FindsEnd, IsWalked, PrecedesUnmarked, AreReadsApart, FindsUnplaced, FindsFailed};
+ghost use Rattle.cert_checker.specs.RefutationSteps.{with_op, AreSpans, FindsWritten, FindsMembers, AreMembers, case_ops, case_stuck, IsCase, FindsMember, FindsEnd, IsWalked, PrecedesUnmarked, AreReadsApart, FindsUnplaced, FindsFailed};
 
 use crate::Found;
 use crate::records::{Hints, precedes};
@@ -305,6 +305,37 @@ impl Case<'_> {
     }
 }
 
+// The record that is named where there is no stranger among the members, and these are the marks of their values.
+fn tries_fault(
+    alloc: Global,
+    d: u64,
+    key: &KeyOps,
+    hints: &Hints,
+    refutation: &Refutation,
+    members: &[bool],
+) -> Result<Option<u32>, Memory>
+    requires valid { IsValidKey key.now }
+    requires matched { IsMatchedKey (operations key.now) }
+    requires members { AreMembers (operations key.now) refutation.now.stuck members.now }
+    requires size { length members.now ≡ length key.now.values + 1 }
+    ensures { IfOk result (IsRefutationCheck (operations key.now) d refutation.now) }
+{
+    let stuck = refutation.stuck.as_slice();
+    if stuck.is_empty() || refutation.tries.as_slice().len() != stuck.len() {
+        return Ok(Some(0));
+    }
+    let spans = spans_of(alloc, key)?;
+    let case = Case {
+        d,
+        key,
+        hints,
+        refutation,
+        members,
+        spans: &spans,
+    };
+    case.first_failed(alloc)
+}
+
 /// The record that is named where the refutation doesn't hold at d.
 pub(crate) fn refutation_fault(
     alloc: Global,
@@ -317,24 +348,10 @@ pub(crate) fn refutation_fault(
     requires matched { IsMatchedKey (operations key.now) }
     ensures { IfOk result (IsRefutationCheck (operations key.now) d refutation.now) }
 {
-    let stuck = refutation.stuck.as_slice();
-    let members = match members_of(alloc, key, hints, stuck)? {
-        Members::Stranger { rec } => return Ok(Some(rec)),
-        Members::Marks(marks) => marks,
-    };
-    if stuck.is_empty() || refutation.tries.as_slice().len() != stuck.len() {
-        return Ok(Some(0));
+    match members_of(alloc, key, hints, refutation.stuck.as_slice())? {
+        Members::Stranger { rec } => Ok(Some(rec)),
+        Members::Marks(marks) => tries_fault(alloc, d, key, hints, refutation, &marks),
     }
-    let spans = spans_of(alloc, key)?;
-    let case = Case {
-        d,
-        key,
-        hints,
-        refutation,
-        members: &members,
-        spans: &spans,
-    };
-    case.first_failed(alloc)
 }
 
 /// Whether a refutation holds, so that no order of all operations exists in which each read returns one of the last
