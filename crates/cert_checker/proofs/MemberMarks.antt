@@ -16,6 +16,10 @@ use Rattle.cert_checker.proofs.InOrder.{not_below}
 use Rattle.cert_checker.proofs.Lookups.{in_slots}
 use Rattle.cert_checker.proofs.Marks.{IsGoodTo}
 
+-- what is in a list stands before its end
+pub stands_in : (xs : List ℕ) (x : ℕ) → Contains xs x → StandsTo xs (length xs) x
+stands_in xs x c = record { earlier = c.0; before = c.1; there = at_its_place xs x c }
+
 -- a value that is written has a slot
 pub written_in_slots : (key : KeyOps) (value c : ℕ) → IsValidKey key → IsWrittenBy (operations key) value c → value < length key.values + 1
 written_in_slots key value c valid by = subst (λ v. v < length key.values + 1) by.write.value_is (in_slots key valid by.w by.write.there)

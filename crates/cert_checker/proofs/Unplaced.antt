@@ -11,11 +11,8 @@ use Rattle.stale_model.specs.Refutations.{IsOfRecord, PrecedesUnplaced, HardHold
 use Rattle.stale_model.proofs.Places.{contains_at, at_its_place}
 use Rattle.cert_checker.specs.OrderFaults.{StandsTo}
 use Rattle.cert_checker.specs.RefutationSteps.{IsWrittenBy, HaveMark, AreMembers, IsWalked, PrecedesUnmarked, AreReadsApart}
+use Rattle.cert_checker.proofs.MemberMarks.{stands_in}
 use Rattle.cert_checker.proofs.Written.{of_cluster, one_record, one_value, cluster_value}
-
--- what is in a list stands before its end
-pub stands_in : (xs : List ℕ) (x : ℕ) → Contains xs x → StandsTo xs (length xs) x
-stands_in xs x c = record { earlier = c.0; before = c.1; there = at_its_place xs x c }
 
 module _ (ops : List Op) (names : NamesItsWrites ops) (d : ℕ) (stuck : List ℕ) (members : List Bool) (are : AreMembers ops stuck members)
     (chain marks : List ℕ) (mark value c : ℕ) (walked : IsWalked ops chain marks mark value c) (p x : ℕ) (a b : Op) (a_is : IsOfRecord ops p a) (b_is : IsOfRecord ops x b) where

@@ -46,9 +46,7 @@ impl Span {
 // The span of each value.
 fn spans_of(alloc: Global, key: &KeyOps) -> Result<Vec<Span>, Memory>
     requires { IsValidKey key.now }
-    ensures spans {
-        IfOk result (λ spans. AreSpans (operations key.now) (length (operations key.now)) spans.items)
-    }
+    ensures spans { IfOk result (λ spans. AreSpans (operations key.now) (length (operations key.now)) spans.items) }
     ensures size { IfOk result (λ spans. length spans.items ≡ length key.now.values + 1) }
 {
     let slots = key.values.as_slice().len() + 1;
@@ -87,17 +85,10 @@ enum Members {
 }
 
 // The entries of `stuck`.
-fn members_of(
-    alloc: Global,
-    key: &KeyOps,
-    hints: &Hints,
-    stuck: &[u32],
-) -> Result<Members, Memory>
+fn members_of(alloc: Global, key: &KeyOps, hints: &Hints, stuck: &[u32]) -> Result<Members, Memory>
     requires valid { IsValidKey key.now }
     requires matched { IsMatchedKey (operations key.now) }
-    ensures {
-        IfOk result (FindsMembers (operations key.now) (length key.now.values + 1) stuck.now)
-    }
+    ensures { IfOk result (FindsMembers (operations key.now) (length key.now.values + 1) stuck.now) }
 {
     let slots = key.values.as_slice().len() + 1;
     let mut marks = vec![in alloc; false; slots].map_err(|_| Memory)?;
@@ -137,9 +128,11 @@ impl Case<'_> {
         requires { IsCase self.now }
         ensures { FindsMember (case_ops self.now) (case_stuck self.now) rec result }
     {
-        match written_value(self.key, self.hints, rec) {
-            Some(value) if self.members[value] => Some(value),
-            _ => None,
+        let value = written_value(self.key, self.hints, rec)?;
+        if self.members[value] {
+            Some(value)
+        } else {
+            None
         }
     }
 
@@ -149,9 +142,7 @@ impl Case<'_> {
         requires case { IsCase self.now }
         requires marks_size { length marks.old ≡ length self.now.key.now.values + 1 }
         requires earlier { All (λ m. m < mark) marks.old }
-        ensures end {
-            FindsEnd (case_ops self.now) self.now.d (case_stuck self.now) chain.now marks.new mark result
-        }
+        ensures end { FindsEnd (case_ops self.now) self.now.d (case_stuck self.now) chain.now marks.new mark result }
         ensures marked { All (λ m. m ≤ mark) marks.new }
     {
         let mut last: Option<usize> = None;
@@ -176,9 +167,7 @@ impl Case<'_> {
         requires members_size { b.now.value < length self.now.members.now }
         requires marks_size { b.now.value < length marks.now }
         requires ends { latest_finish a.now < 2 ^ 64 }
-        ensures {
-            IsTrue result ↔ PrecedesUnmarked self.now.d self.now.members.now marks.now mark value a.now b.now
-        }
+        ensures { IsTrue result ↔ PrecedesUnmarked self.now.d self.now.members.now marks.now mark value a.now b.now }
     {
         let other = b.value as usize;
         a.value as usize == value
@@ -191,10 +180,8 @@ impl Case<'_> {
     fn unplaced(&self, marks: &[usize], mark: usize, value: usize, p: u32, x: u32) -> Option<Op>
         requires case { IsCase self.now }
         requires marks_size { length marks.now ≡ length self.now.key.now.values + 1 }
-        ensures {
-            (chain : List ℕ) (c : ℕ) → IsWalked (case_ops self.now) chain marks.now mark value c
-            → FindsUnplaced (case_ops self.now) self.now.d (case_stuck self.now) chain c p x result
-        }
+        ensures { (chain : List ℕ) (c : ℕ) → IsWalked (case_ops self.now) chain marks.now mark value c
+            → FindsUnplaced (case_ops self.now) self.now.d (case_stuck self.now) chain c p x result }
     {
         let a = self.hints.find(self.key, p)?.op;
         let b = self.hints.find(self.key, x)?.op;
@@ -209,10 +196,8 @@ impl Case<'_> {
     fn hard_holds(&self, marks: &[usize], mark: usize, value: usize, p: u32, u: u32) -> bool
         requires case { IsCase self.now }
         requires marks_size { length marks.now ≡ length self.now.key.now.values + 1 }
-        ensures {
-            (chain : List ℕ) (c : ℕ) → IsWalked (case_ops self.now) chain marks.now mark value c
-            → IsTrue result ↔ HardHolds (case_ops self.now) self.now.d (case_stuck self.now) chain c p u
-        }
+        ensures { (chain : List ℕ) (c : ℕ) → IsWalked (case_ops self.now) chain marks.now mark value c
+            → IsTrue result ↔ HardHolds (case_ops self.now) self.now.d (case_stuck self.now) chain c p u }
     {
         match self.unplaced(marks, mark, value, p, u) {
             Some(b) => match b.kind {
@@ -235,10 +220,8 @@ impl Case<'_> {
     ) -> bool
         requires case { IsCase self.now }
         requires marks_size { length marks.now ≡ length self.now.key.now.values + 1 }
-        ensures {
-            (chain : List ℕ) (c : ℕ) → IsWalked (case_ops self.now) chain marks.now mark value c
-            → IsTrue result ↔ SoftHolds (case_ops self.now) self.now.d (case_stuck self.now) chain c p q q2
-        }
+        ensures { (chain : List ℕ) (c : ℕ) → IsWalked (case_ops self.now) chain marks.now mark value c
+            → IsTrue result ↔ SoftHolds (case_ops self.now) self.now.d (case_stuck self.now) chain c p q q2 }
     {
         let Some(a) = self.unplaced(marks, mark, value, p, q) else {
             return false;
@@ -253,10 +236,8 @@ impl Case<'_> {
     fn end_holds(&self, marks: &[usize], mark: usize, value: usize, end: &End) -> bool
         requires case { IsCase self.now }
         requires marks_size { length marks.now ≡ length self.now.key.now.values + 1 }
-        ensures {
-            (chain : List ℕ) (c : ℕ) → IsWalked (case_ops self.now) chain marks.now mark value c
-            → IsTrue result ↔ EndHolds (case_ops self.now) self.now.d (case_stuck self.now) chain c end.now
-        }
+        ensures { (chain : List ℕ) (c : ℕ) → IsWalked (case_ops self.now) chain marks.now mark value c
+            → IsTrue result ↔ EndHolds (case_ops self.now) self.now.d (case_stuck self.now) chain c end.now }
     {
         match end {
             End::Hard { p, u } => self.hard_holds(marks, mark, value, *p, *u),
@@ -269,9 +250,7 @@ impl Case<'_> {
         requires case { IsCase self.now }
         requires marks_size { length marks.old ≡ length self.now.key.now.values + 1 }
         requires earlier { All (λ m. m < mark) marks.old }
-        ensures holds {
-            IsTrue result ↔ TryHolds (case_ops self.now) self.now.d (case_stuck self.now) member attempt.now
-        }
+        ensures holds { IsTrue result ↔ TryHolds (case_ops self.now) self.now.d (case_stuck self.now) member attempt.now }
         ensures marked { All (λ m. m ≤ mark) marks.new }
     {
         let chain = attempt.chain.as_slice();
@@ -289,9 +268,7 @@ impl Case<'_> {
     fn first_failed(&self, alloc: Global) -> Result<Option<u32>, Memory>
         requires case { IsCase self.now }
         requires as_many { length self.now.refutation.now.tries ≡ length self.now.refutation.now.stuck }
-        ensures {
-            IfOk result (FindsFailed (case_ops self.now) self.now.d self.now.refutation.now)
-        }
+        ensures { IfOk result (FindsFailed (case_ops self.now) self.now.d self.now.refutation.now) }
     {
         let stuck = self.refutation.stuck.as_slice();
         let mut marks = vec![in alloc; 0usize; self.members.len()].map_err(|_| Memory)?;

@@ -12,11 +12,11 @@ returns-in_default-unplaced c = λ chain e walked. (λ t. absurd (true≢false (
 
 pub returns : goal.returns
 returns c = λ chain e walked. (
-    λ t.
-        soft_from_reads (case_ops c.args.self.now) (matched_keys_name_their_writes c.args.self.now.key.now c.requires.case.valid c.requires.case.matched) c.args.self.now.d (case_stuck c.args.self.now)
-        chain e c.args.p c.args.q c.args.q2 c.in-Some.a c.in-Some-unplaced.b (c.in-Some.ensures chain e walked) (c.in-Some-unplaced.ensures chain e walked) (c.are_reads_apart.ensures.0 t),
-    λ h.
-        c.are_reads_apart.ensures.1
-        (reads_from_soft (case_ops c.args.self.now) (matched_keys_name_their_writes c.args.self.now.key.now c.requires.case.valid c.requires.case.matched) c.args.self.now.d (case_stuck c.args.self.now)
-        chain e c.args.p c.args.q c.args.q2 c.in-Some.a c.in-Some-unplaced.b (c.in-Some.ensures chain e walked) (c.in-Some-unplaced.ensures chain e walked) h),
-  )
+  λ t.
+      soft_from_reads (case_ops c.args.self.now) (matched_keys_name_their_writes c.args.self.now.key.now c.requires.case.valid c.requires.case.matched) c.args.self.now.d (case_stuck c.args.self.now)
+      chain e c.args.p c.args.q c.args.q2 c.in-Some.a c.in-Some-unplaced.b (c.in-Some.ensures chain e walked) (c.in-Some-unplaced.ensures chain e walked) (c.are_reads_apart.ensures.0 t),
+  λ h.
+      c.are_reads_apart.ensures.1
+      (reads_from_soft (case_ops c.args.self.now) (matched_keys_name_their_writes c.args.self.now.key.now c.requires.case.valid c.requires.case.matched) c.args.self.now.d (case_stuck c.args.self.now)
+      chain e c.args.p c.args.q c.args.q2 c.in-Some.a c.in-Some-unplaced.b (c.in-Some.ensures chain e walked) (c.in-Some-unplaced.ensures chain e walked) h),
+)
