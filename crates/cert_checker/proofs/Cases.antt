@@ -1,11 +1,9 @@
 -- What is known of a case that tries are checked against.
-use Rattle.std.proofs.Common.{◌≡◌, ◌<◌, ◌+◌, ℕ, true, false, Some, List, length, get_or, sym, ◌∙◌, ap, arith, true≢false}
+use Rattle.std.proofs.Common.{◌≡◌, ◌<◌, ℕ, true, false, Some, length, get_or, sym, ◌∙◌, ap, arith, true≢false}
 use Rattle.std.specs.Prelude.{Contains}
 use Rattle.std.proofs.lemmas.Option.{slice_get-get_or, get_or_from_slice_get}
-use Rattle.stale_model.specs.declared.Op.{Op}
 use Rattle.stale_model.proofs.Places.{contains_at}
 use Rattle.cert_checker.specs.declared.refutations.Case.{Case}
-use Rattle.cert_checker.specs.declared.refutations.Span.{Span}
 use Rattle.cert_checker.specs.RefutationSteps.{case_ops, case_stuck, IsCase, IsSpan, IsWrittenBy}
 use Rattle.cert_checker.proofs.MemberMarks.{stands_in, written_in_slots}
 

@@ -1,5 +1,5 @@
 -- A chain, walked to one of its places.
-use Rattle.std.proofs.Common.{◌≡◌, ◌⊎◌, inl, inr, ◌<◌, ◌≤◌, ◌+◌, ◌-◌, ℕ, List, length, Option, Some, None, sym, ◌∙◌, subst, arith}
+use Rattle.std.proofs.Common.{◌≡◌, inl, inr, ◌<◌, ◌≤◌, ◌+◌, ◌-◌, ℕ, List, length, Option, Some, None, sym, subst, arith}
 use Rattle.std.specs.Prelude.{Contains}
 use Rattle.std.proofs.lemmas.Option.{slice_get_within}
 use Rattle.stale_model.specs.declared.Op.{Op}
@@ -9,10 +9,10 @@ use Rattle.stale_model.specs.Valid.{IsValidKey}
 use Rattle.stale_model.specs.NamedWrites.{NamesItsWrites}
 use Rattle.stale_model.specs.Orders.{StandsAt}
 use Rattle.stale_model.specs.Refutations.{Forces}
-use Rattle.stale_model.proofs.Places.{contains_at, at_its_place, same_at}
+use Rattle.stale_model.proofs.Places.{at_its_place, same_at}
 use Rattle.cert_checker.specs.OrderFaults.{StandsTo}
 use Rattle.cert_checker.specs.declared.refutations.Span.{Span}
-use Rattle.cert_checker.specs.RefutationSteps.{IsSpan, IsWrittenBy, HaveMark, IsChain, IsWalked, FindsEnd}
+use Rattle.cert_checker.specs.RefutationSteps.{IsSpan, IsWrittenBy, HaveMark, IsChain, FindsEnd}
 use Rattle.cert_checker.proofs.Marks.{IsGoodTo, entry}
 use Rattle.cert_checker.proofs.Starts.{below_or_at}
 use Rattle.cert_checker.proofs.Spans.{forces_from_spans, spans_from_forces}

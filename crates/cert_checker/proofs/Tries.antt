@@ -1,9 +1,7 @@
 -- Tries by what walking their chains finds.
-use Rattle.std.proofs.Common.{◌≡◌, ◌≢◌, ◌⊎◌, inl, inr, ◌<◌, ◌≤◌, ◌+◌, ◌-◌, ℕ, Bool, List, length, Option, Some, None, subst, arith}
-use Rattle.std.specs.Prelude.{Contains}
+use Rattle.std.proofs.Common.{◌≡◌, inl, inr, ◌<◌, ◌+◌, ◌-◌, ℕ, Bool, List, length, Option, Some, None, subst}
 use Rattle.std.proofs.lemmas.Option.{slice_get_within}
 use Rattle.stale_model.specs.declared.Op.{Op}
-use Rattle.stale_model.specs.declared.End.{End}
 use Rattle.stale_model.specs.declared.Try.{Try}
 use Rattle.stale_model.specs.declared.Refutation.{Refutation}
 use Rattle.stale_model.specs.Orders.{StandsAt}

@@ -1,16 +1,13 @@
 -- Operations that precede those of members that a chain doesn't place.
-use Rattle.std.proofs.Common.{◌≡◌, ◌≢◌, ℕ, true, Bool, List, length, refl, sym, ◌∙◌, ap, subst}
-use Rattle.std.specs.Prelude.{Contains}
-use Rattle.std.proofs.lemmas.Option.{slice_get_within}
+use Rattle.std.proofs.Common.{◌≡◌, ℕ, Bool, List, length, refl, sym, ◌∙◌, ap, subst}
 use Rattle.stale_model.specs.declared.Op.{Op}
 use Rattle.stale_model.specs.Operations.{IsRead, IsWrite}
 use Rattle.stale_model.specs.Faults.{IsWriteOf}
 use Rattle.stale_model.specs.NamedWrites.{NamesItsWrites}
-use Rattle.stale_model.specs.Orders.{StandsAt}
 use Rattle.stale_model.specs.Refutations.{IsOfRecord, PrecedesUnplaced, HardHolds, SoftHolds}
-use Rattle.stale_model.proofs.Places.{contains_at, at_its_place}
+use Rattle.stale_model.proofs.Places.{contains_at}
 use Rattle.cert_checker.specs.OrderFaults.{StandsTo}
-use Rattle.cert_checker.specs.RefutationSteps.{IsWrittenBy, HaveMark, AreMembers, IsWalked, PrecedesUnmarked, AreReadsApart}
+use Rattle.cert_checker.specs.RefutationSteps.{IsWrittenBy, AreMembers, IsWalked, PrecedesUnmarked, AreReadsApart}
 use Rattle.cert_checker.proofs.MemberMarks.{stands_in}
 use Rattle.cert_checker.proofs.Written.{of_cluster, one_record, one_value, cluster_value}
 

@@ -1,10 +1,9 @@
-use Rattle.std.proofs.Common.{rules, ◌≡◌, ◌⊎◌, inl, inr, ◌<◌, ◌+◌, ℕ, Bool, true, false, List, length, get_or, refl, sym, ◌∙◌, subst, arith, true≢false}
+use Rattle.std.proofs.Common.{rules, ◌≡◌, ◌⊎◌, inl, inr, ◌<◌, ℕ, Bool, true, List, length, get_or, refl, ◌∙◌, subst, arith, true≢false}
 use Rattle.std.proofs.lemmas.List.{length-set}
 use Rattle.std.proofs.lemmas.Option.{slice_get-get_or, slice_get_read}
 use Rattle.stale_model.specs.declared.Op.{Op}
 use Rattle.stale_model.specs.declared.KeyOps.{KeyOps}
 use Rattle.stale_model.specs.Operations.{operations, IsWrite}
-use Rattle.stale_model.specs.NamedWrites.{NamesItsWrites}
 use Rattle.stale_model.specs.Orders.{StandsAt}
 use Rattle.stale_model.specs.Refutations.{IsOfRecord}
 use Rattle.stale_model.proofs.Places.{same_at}

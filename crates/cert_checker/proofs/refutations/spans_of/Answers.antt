@@ -1,13 +1,12 @@
 use Rattle.std.proofs.Common.{rules, ℕ, ◌≡◌, ◌<◌, ◌+◌, length, replicate, set, get_or, arith, subst, sym, ap, ◌∙◌}
 use Rattle.std.proofs.lemmas.List.{length-set}
-use Rattle.std.proofs.lemmas.Option.{slice_get-get_or, slice_get_read}
-use Rattle.std.proofs.lemmas.Grind.{common_steps}
+use Rattle.std.proofs.lemmas.Option.{slice_get_read}
 use Rattle.stale_model.specs.declared.Op.{Op}
 use Rattle.stale_model.specs.declared.KeyOps.{KeyOps}
 use Rattle.stale_model.specs.Operations.{operations}
 use Rattle.stale_model.specs.Orders.{StandsAt}
 use Rattle.cert_checker.specs.declared.refutations.Span.{Span}
-use Rattle.cert_checker.specs.RefutationSteps.{AreSpans, with_op}
+use Rattle.cert_checker.specs.RefutationSteps.{AreSpans}
 use Rattle.cert_checker.proofs.InOrder.{no_op}
 use Rattle.cert_checker.proofs.Lookups.{later, in_slots}
 use Rattle.stale_model.proofs.Places.{contains_at}

@@ -1,17 +1,16 @@
-use Rattle.std.proofs.Common.{rules, ◌≡◌, ◌<◌, ◌≤◌, ◌+◌, ℕ, All, Some, None, List, length, get_or, set, refl, sym, ◌∙◌, subst, arith, true≢false}
+use Rattle.std.proofs.Common.{rules, ◌≡◌, ◌<◌, ◌+◌, ℕ, List, length, get_or, refl, sym, ◌∙◌, subst, arith, true≢false}
 use Rattle.std.specs.Prelude.{Contains}
 use Rattle.std.proofs.lemmas.List.{length-set}
 use Rattle.std.proofs.lemmas.Option.{slice_get-get_or, slice_get_within, get_or_from_slice_get}
 use Rattle.stale_model.specs.declared.Op.{Op}
 use Rattle.stale_model.specs.declared.KeyOps.{KeyOps}
-use Rattle.stale_model.specs.NamedWrites.{NamesItsWrites}
 use Rattle.stale_model.specs.Orders.{StandsAt}
 use Rattle.stale_model.specs.Refutations.{Forces}
 use Rattle.stale_model.proofs.Places.{contains_at}
 use Rattle.model_laws.proofs.Named.{matched_keys_name_their_writes}
 use Rattle.cert_checker.specs.OrderFaults.{StandsTo}
 use Rattle.cert_checker.specs.declared.refutations.Span.{Span}
-use Rattle.cert_checker.specs.RefutationSteps.{case_ops, case_stuck, IsWrittenBy, FindsEnd}
+use Rattle.cert_checker.specs.RefutationSteps.{case_ops, case_stuck, IsWrittenBy}
 use Rattle.cert_checker.proofs.Marks.{good_more}
 use Rattle.cert_checker.proofs.MemberMarks.{written_in_slots}
 use Rattle.cert_checker.proofs.Written.{none_marked, mark_more}

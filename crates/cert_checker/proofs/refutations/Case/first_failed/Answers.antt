@@ -3,8 +3,8 @@ use Rattle.std.proofs.Math.Seq.{take-append_seam}
 use Rattle.std.proofs.lemmas.Option.{slice_get-get_or, slice_get_within, slice_get_read}
 use Rattle.stale_model.specs.declared.Try.{Try}
 use Rattle.stale_model.specs.Orders.{StandsAt}
-use Rattle.cert_checker.specs.RefutationSteps.{case_ops, case_stuck}
-use Rattle.cert_checker.proofs.Tries.{AreHeld, held_more}
+use Rattle.cert_checker.specs.RefutationSteps.{case_ops}
+use Rattle.cert_checker.proofs.Tries.{held_more}
 use Rattle.cert_checker.proofs.refutations.Case.first_failed.Goals as goal
 
 -- what a call leaves of a whole list

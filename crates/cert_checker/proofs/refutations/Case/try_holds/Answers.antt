@@ -1,4 +1,4 @@
-use Rattle.std.proofs.Common.{rules, ◌≡◌, List, ℕ, Some, None, sym, subst, true≢false}
+use Rattle.std.proofs.Common.{rules, List, ℕ, Some, None, sym, subst, true≢false}
 use Rattle.stale_model.specs.Orders.{StandsAt}
 use Rattle.cert_checker.specs.RefutationSteps.{case_ops, case_stuck, FindsEnd}
 use Rattle.cert_checker.proofs.Tries.{chain_from_try, try_from_end, end_from_try}

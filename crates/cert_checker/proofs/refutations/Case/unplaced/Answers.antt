@@ -1,9 +1,7 @@
-use Rattle.std.proofs.Common.{◌<◌, ◌+◌, ℕ, length, sym, true≢false, ◌∙◌, arith}
-use Rattle.stale_model.specs.declared.Op.{Op}
-use Rattle.stale_model.specs.Refutations.{IsOfRecord}
+use Rattle.std.proofs.Common.{sym, true≢false, ◌∙◌}
 use Rattle.model_laws.proofs.Named.{matched_keys_name_their_writes}
 use Rattle.cert_checker.specs.RefutationSteps.{case_ops, case_stuck}
-use Rattle.cert_checker.proofs.Lookups.{of_record, in_slots, ends}
+use Rattle.cert_checker.proofs.Lookups.{of_record}
 use Rattle.cert_checker.proofs.Unplaced.{found_unplaced, unmarked_from_late}
 use Rattle.cert_checker.proofs.refutations.Case.unplaced.Goals as goal
 
