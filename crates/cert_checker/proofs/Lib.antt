@@ -12,3 +12,10 @@ pub mod KeyStates
 pub mod EachKey
 pub mod FirstFaults
 pub mod WriteStarts
+pub mod Written
+pub mod Spans
+pub mod MemberMarks
+pub mod ChainWalks
+pub mod Cases
+pub mod Unplaced
+pub mod Tries

@@ -21,9 +21,9 @@ use Rattle.cert_checker.proofs.Starts.{below_or_at}
 abbrev pub Rises : List ℕ → Type 0
 Rises xs = (i j a b : ℕ) → i < j → StandsAt xs i a → StandsAt xs j b → a < b
 
--- the entries before place n are records, each once
-pub record IsGoodTo (records order : List ℕ) (n : ℕ) : Type 0 where
-  pub known : (i x : ℕ) → i < n → StandsAt order i x → Contains records x
+-- the entries before place n are known, each once
+pub record IsGoodTo (IsKnown : ℕ → Type 0) (order : List ℕ) (n : ℕ) : Type 0 where
+  pub known : (i x : ℕ) → i < n → StandsAt order i x → IsKnown x
   pub once : (i j x : ℕ) → i < n → j < n → StandsAt order i x → StandsAt order j x → i ≡ j
 
 pub parts : (a b : ℕ) → (a ≡ b) ⊎ ((a < b) ⊎ (b < a))
@@ -62,20 +62,21 @@ place_is records i j x rises a b = go (parts i j)
     go (inr (inl lt)) = absurd (omega (arith, rises i j x x lt a b))
     go (inr (inr lt)) = absurd (omega (arith, rises j i x x lt b a))
 
--- one more entry, which is a record that has no mark
-module _ (records order : List ℕ) (n rec place : ℕ) (rises : Rises records) (at : StandsAt order n rec) (is : StandsAt records place rec) where
-  entry : (p x : ℕ) → p ≡ n → StandsAt order p x → x ≡ rec
+-- one more entry
+module _ (order : List ℕ) (n rec : ℕ) (at : StandsAt order n rec) where
+  pub entry : (p x : ℕ) → p ≡ n → StandsAt order p x → x ≡ rec
   entry p x e there = same_at order n x rec (subst (λ q. StandsAt order q x) e there) at
 
-  pub good_more : IsGoodTo records order n → (StandsTo order n rec → ⊥) → IsGoodTo records order (n + 1)
-  good_more to fresh = record {
+  -- which is known, and stood nowhere before
+  pub good_more : (IsKnown : ℕ → Type 0) → IsKnown rec → IsGoodTo IsKnown order n → (StandsTo order n rec → ⊥) → IsGoodTo IsKnown order (n + 1)
+  good_more IsKnown is to fresh = record {
     known = λ i x lt there. known_at i x there (below_or_at i n lt);
     once = λ i j x li lj a b. once_at i j x a b (below_or_at i n li) (below_or_at j n lj);
   }
     where
-      known_at : (i x : ℕ) → StandsAt order i x → (i < n) ⊎ (i ≡ n) → Contains records x
+      known_at : (i x : ℕ) → StandsAt order i x → (i < n) ⊎ (i ≡ n) → IsKnown x
       known_at i x there (inl lt) = to.known i x lt there
-      known_at i x there (inr e) = subst (Contains records) (sym (entry i x e there)) (contains_at records place rec is)
+      known_at i x there (inr e) = subst IsKnown (sym (entry i x e there)) is
 
       never : (i x : ℕ) → i < n → StandsAt order i x → x ≡ rec → ⊥
       never i x lt there e = fresh (record { earlier = i; before = lt; there = subst (StandsAt order i) e there })
@@ -86,6 +87,8 @@ module _ (records order : List ℕ) (n rec place : ℕ) (rises : Rises records) 
       once_at i j x a b (inr ei) (inl lj) = absurd (never j x lj b (entry i x ei a))
       once_at i j x a b (inr ei) (inr ej) = ei ∙ sym ej
 
+-- one more entry, which is a record that has no mark
+module _ (records order : List ℕ) (n rec place : ℕ) (rises : Rises records) (at : StandsAt order n rec) (is : StandsAt records place rec) where
   module _ (marks : List Bool) (within : place < length marks) (are : AreMarks records order n marks) where
     pub marks_more : AreMarks records order (n + 1) (set marks place true)
     marks_more = record { marked = λ p x there s. marked_at p x there s (below_or_at s.earlier n s.before); only = λ p x there m. only_at p x there m (same_or_not p place) }
@@ -97,7 +100,7 @@ module _ (records order : List ℕ) (n rec place : ℕ) (rises : Rises records) 
             go (inl e) b = subst (λ q. StandsAt (set marks place true) q true) (sym e) (set_at marks place true false within)
             go (inr apart) (inl lt) = set_other marks place true false p true apart (are.marked p x there (record { earlier = s.earlier; before = lt; there = s.there }))
             go (inr apart) (inr e) =
-                absurd (apart (place_is records p place rec rises (subst (StandsAt records p) (entry s.earlier x e s.there) there) is))
+                absurd (apart (place_is records p place rec rises (subst (StandsAt records p) (entry order n rec at s.earlier x e s.there) there) is))
 
         only_at : (p x : ℕ) → StandsAt records p x → StandsAt (set marks place true) p true → (p ≡ place) ⊎ (p ≢ place) → StandsTo order (n + 1) x
         only_at p x there m (inl e) =
@@ -108,7 +111,7 @@ module _ (records order : List ℕ) (n rec place : ℕ) (rises : Rises records) 
             record { earlier = s.earlier; before = omega (arith, s.before); there = s.there }
 
 -- no entry before place n is a stray
-pub no_stray : (ops : List Op) (order : List ℕ) (n : ℕ) → IsGoodTo (records_of ops) order n → (p : ℕ) → p < n → IsStray ops order p → ⊥
+pub no_stray : (ops : List Op) (order : List ℕ) (n : ℕ) → IsGoodTo (Contains (records_of ops)) order n → (p : ℕ) → p < n → IsStray ops order p → ⊥
 no_stray ops order n to p lt s = go s.why
   where
     go : (Contains (records_of ops) s.rec → ⊥) ⊎ StandsTo order p s.rec → ⊥
@@ -116,7 +119,7 @@ no_stray ops order n to p lt s = go s.why
     go (inr t) = omega (arith, t.before, to.once t.earlier p s.rec (omega (arith, t.before)) lt t.there s.there)
 
 -- the entry at place n is the first stray
-pub first_stray : (ops : List Op) (order : List ℕ) (n rec : ℕ) → IsGoodTo (records_of ops) order n → StandsAt order n rec
+pub first_stray : (ops : List Op) (order : List ℕ) (n rec : ℕ) → IsGoodTo (Contains (records_of ops)) order n → StandsAt order n rec
     → (Contains (records_of ops) rec → ⊥) ⊎ StandsTo order n rec → IsFirstWrong (IsStray ops order) order rec
 first_stray ops order n rec to at why = record {
   place = n;
@@ -126,7 +129,7 @@ first_stray ops order n rec to at why = record {
 }
 
 -- past the end of the list
-module _ (marks : List Bool) (ops : List Op) (order : List ℕ) (n : ℕ) (past : length order ≤ n) (to : IsGoodTo (records_of ops) order n) (are : AreMarks (records_of ops) order n marks) where
+module _ (marks : List Bool) (ops : List Op) (order : List ℕ) (n : ℕ) (past : length order ≤ n) (to : IsGoodTo (Contains (records_of ops)) order n) (are : AreMarks (records_of ops) order n marks) where
   low : (i x : ℕ) → StandsAt order i x → i < n
   low i x there = omega (arith, past, slice_get_within order i x there)
 
@@ -161,7 +164,7 @@ module _ (marks : List Bool) (ops : List Op) (order : List ℕ) (n : ℕ) (past 
       least x c out (inr (inr lt)) = omega (arith, rises place c.0 rec x lt at (at_its_place (records_of ops) x c))
 
 -- before the first entry
-pub good_none : (records order : List ℕ) → IsGoodTo records order 0
+pub good_none : (records order : List ℕ) → IsGoodTo (Contains records) order 0
 good_none records order = record { known = λ i x lt there. absurd (omega (arith, lt)); once = λ i j x li lj a b. absurd (omega (arith, li)) }
 
 -- a record without its mark stands nowhere before
@@ -237,7 +240,7 @@ listed_more ops order n listed a c at are = record {
 
 -- all entries are known once the last one is
 pub known_to_end : (ops : List Op) (order : List ℕ) (n : ℕ) (listed : List Op) (marks : List Bool) → length order ≤ n → n ≤ length order → length marks ≡ length ops
-    → IsGoodTo (records_of ops) order n → AreMarks (records_of ops) order n marks → AreListed ops (take n order) listed → IsKnown ops order listed marks
+    → IsGoodTo (Contains (records_of ops)) order n → AreMarks (records_of ops) order n marks → AreListed ops (take n order) listed → IsKnown ops order listed marks
 known_to_end ops order n listed marks past within one_each good marked are = record {
   known = λ x c. good.known c.0 x (low c.0 x (at_its_place order x c)) (at_its_place order x c);
   once = λ i j x a b. good.once i j x (low i x a) (low j x b) a b;
@@ -248,7 +251,7 @@ known_to_end ops order n listed marks past within one_each good marked are = rec
   low : (i x : ℕ) → StandsAt order i x → i < n
   low i x at = let l = slice_get_within order i x at in omega arith
 
-pub good_from_known : (ops : List Op) (order : List ℕ) (listed : List Op) (marks : List Bool) → IsKnown ops order listed marks → IsGoodTo (records_of ops) order (length order)
+pub good_from_known : (ops : List Op) (order : List ℕ) (listed : List Op) (marks : List Bool) → IsKnown ops order listed marks → IsGoodTo (Contains (records_of ops)) order (length order)
 good_from_known ops order listed marks known = record {
   known = λ i x lt at. known.known x (contains_at order i x at);
   once = λ i j x li lj a b. known.once i j x a b;

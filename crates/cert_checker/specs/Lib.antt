@@ -6,4 +6,5 @@ pub mod States
 pub mod KeyFaults
 pub mod KeySteps
 pub mod Steps
+pub mod RefutationSteps
 pub mod Laws

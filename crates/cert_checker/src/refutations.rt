@@ -1,14 +1,317 @@
 //! Refutations of 2-atomicity: members that are writes, and a try for each.
-ghost use Rattle.std.specs.Prelude.{IfOk};
-ghost use Rattle.stale_model.specs.Operations.{operations};
+ghost use Rattle.std.specs.Prelude.{◌≡◌, ◌+◌, ◌^◌, ◌<◌, ◌≤◌, ◌↔◌, ℕ, List, All, IfOk, IsTrue, length};
+ghost use Rattle.stale_model.specs.Operations.{operations, latest_finish};
 ghost use Rattle.stale_model.specs.Valid.{IsValidKey};
 ghost use Rattle.stale_model.specs.Faults.{IsMatchedKey};
+ghost use Rattle.stale_model.specs.Refutations.{HardHolds, SoftHolds, EndHolds, TryHolds};
 ghost use Rattle.cert_checker.specs.RefutationFaults.{IsRefutationCheck, FindsRefutation};
+ghost use Rattle.cert_checker.specs.RefutationSteps.{with_op, AreSpans, FindsWritten, FindsMembers, AreMembers, case_ops, case_stuck, IsCase, FindsMember, FindsEnd, IsWalked, PrecedesUnmarked, AreReadsApart, FindsUnplaced, FindsFailed};
 
 use crate::Found;
-use crate::records::Hints;
-use stale_model::{KeyOps, Memory, Refutation};
+use crate::records::{Hints, precedes};
+use stale_model::{End, INITIAL_WRITE, KeyOps, Kind, Memory, Op, Refutation, Try};
 use std::alloc::Global;
+
+// When the operations of one value finish and its reads start.
+#[derive(Clone, Copy)]
+struct Span {
+    // The least latest finish of the operations; the greatest tick where there is none.
+    finish: u64,
+    // The greatest earliest start of the reads; 0 where there is none.
+    start: u64,
+}
+
+impl Span {
+    // One more operation.
+    fn with(&self, op: &Op) -> Span
+        requires { latest_finish op.now < 2 ^ 64 }
+        ensures { result ≡ with_op self.now op.now }
+    {
+        let finish = self.finish.min(op.latest_finish());
+        let start = match op.kind {
+            Kind::Read => self.start.max(op.earliest_start()),
+            Kind::Write => self.start,
+        };
+        Span { finish, start }
+    }
+
+    // Whether some operation of this value precedes a read of the next one at d.
+    fn forces(&self, d: u64, next: &Span) -> bool
+        ensures { IsTrue result ↔ (self.now.finish + d < next.now.start) }
+    {
+        next.start.saturating_sub(self.finish) > d
+    }
+}
+
+// The span of each value.
+fn spans_of(alloc: Global, key: &KeyOps) -> Result<Vec<Span>, Memory>
+    requires { IsValidKey key.now }
+    ensures spans { IfOk result (λ spans. AreSpans (operations key.now) (length (operations key.now)) spans.items) }
+    ensures size { IfOk result (λ spans. length spans.items ≡ length key.now.values + 1) }
+{
+    let slots = key.values.as_slice().len() + 1;
+    let none = Span {
+        finish: u64::MAX,
+        start: 0,
+    };
+    let mut spans = vec![in alloc; none; slots].map_err(|_| Memory)?;
+    spans[0] = none.with(&INITIAL_WRITE);
+    for op in key.ops.as_slice() {
+        let value = op.value as usize;
+        spans[value] = spans[value].with(op);
+    }
+    Ok(spans)
+}
+
+// The value of the write with this record, if there is one.
+fn written_value(key: &KeyOps, hints: &Hints, rec: u32) -> Option<usize>
+    requires { IsValidKey key.now }
+    ensures { FindsWritten (operations key.now) rec result }
+{
+    let found = hints.find(key, rec)?;
+    match found.op.kind {
+        Kind::Write => Some(found.op.value as usize),
+        Kind::Read => None,
+    }
+}
+
+// What the entries of `stuck` are.
+#[derive(Drop)]
+enum Members {
+    // The first that is the record of no write, or stood before.
+    Stranger { rec: u32 },
+    // All are records of writes, each once: a mark for each of their values.
+    Marks(Vec<bool>),
+}
+
+// The entries of `stuck`.
+fn members_of(alloc: Global, key: &KeyOps, hints: &Hints, stuck: &[u32]) -> Result<Members, Memory>
+    requires valid { IsValidKey key.now }
+    requires matched { IsMatchedKey (operations key.now) }
+    ensures { IfOk result (FindsMembers (operations key.now) (length key.now.values + 1) stuck.now) }
+{
+    let slots = key.values.as_slice().len() + 1;
+    let mut marks = vec![in alloc; false; slots].map_err(|_| Memory)?;
+    for rec in stuck {
+        match written_value(key, hints, *rec) {
+            Some(value) if !marks[value] => marks[value] = true,
+            _ => return Ok(Members::Stranger { rec: *rec }),
+        }
+    }
+    Ok(Members::Marks(marks))
+}
+
+// Whether two operations are reads of two values.
+fn are_reads_apart(a: &Op, b: &Op) -> bool
+    ensures { IsTrue result ↔ AreReadsApart a.now b.now }
+{
+    match (a.kind, b.kind) {
+        (Kind::Read, Kind::Read) => a.value != b.value,
+        _ => false,
+    }
+}
+
+// What each try is checked against: a refutation of a key at d, with the members' marks and the spans by value.
+#[derive(Clone, Copy)]
+struct Case<'a> {
+    d: u64,
+    key: &'a KeyOps,
+    hints: &'a Hints,
+    refutation: &'a Refutation,
+    members: &'a [bool],
+    spans: &'a [Span],
+}
+
+impl Case<'_> {
+    // The value of the member with this record, if there is one.
+    fn member_value(&self, rec: u32) -> Option<usize>
+        requires { IsCase self.now }
+        ensures { FindsMember (case_ops self.now) (case_stuck self.now) rec result }
+    {
+        let value = written_value(self.key, self.hints, rec)?;
+        if self.members[value] {
+            Some(value)
+        } else {
+            None
+        }
+    }
+
+    // Walks a chain, and gives its last value where it is one of members, each once and each forced by the one before
+    // it. Its values get this mark, which is greater than those of the chains before.
+    fn chain_end(&self, marks: &mut [usize], mark: usize, chain: &[u32]) -> Option<usize>
+        requires case { IsCase self.now }
+        requires marks_size { length marks.old ≡ length self.now.key.now.values + 1 }
+        requires earlier { All (λ m. m < mark) marks.old }
+        ensures end { FindsEnd (case_ops self.now) self.now.d (case_stuck self.now) chain.now marks.new mark result }
+        ensures marked { All (λ m. m ≤ mark) marks.new }
+    {
+        let mut last: Option<usize> = None;
+        for rec in chain {
+            let value = self.member_value(*rec)?;
+            if marks[value] == mark {
+                return None;
+            }
+            if let Some(before) = last {
+                if !self.spans[before].forces(self.d, &self.spans[value]) {
+                    return None;
+                }
+            }
+            marks[value] = mark;
+            last = Some(value);
+        }
+        last
+    }
+
+    // Whether a, an operation of this value, precedes b, of a member whose value doesn't have this mark.
+    fn precedes_unmarked(&self, marks: &[usize], mark: usize, value: usize, a: &Op, b: &Op) -> bool
+        requires members_size { b.now.value < length self.now.members.now }
+        requires marks_size { b.now.value < length marks.now }
+        requires ends { latest_finish a.now < 2 ^ 64 }
+        ensures { IsTrue result ↔ PrecedesUnmarked self.now.d self.now.members.now marks.now mark value a.now b.now }
+    {
+        let other = b.value as usize;
+        a.value as usize == value
+            && self.members[other]
+            && marks[other] != mark
+            && precedes(self.d, a, b)
+    }
+
+    // The operation x, of a member whose value doesn't have this mark, where p, an operation of this value, precedes it.
+    fn unplaced(&self, marks: &[usize], mark: usize, value: usize, p: u32, x: u32) -> Option<Op>
+        requires case { IsCase self.now }
+        requires marks_size { length marks.now ≡ length self.now.key.now.values + 1 }
+        ensures { (chain : List ℕ) (c : ℕ) → IsWalked (case_ops self.now) chain marks.now mark value c
+            → FindsUnplaced (case_ops self.now) self.now.d (case_stuck self.now) chain c p x result }
+    {
+        let a = self.hints.find(self.key, p)?.op;
+        let b = self.hints.find(self.key, x)?.op;
+        if self.precedes_unmarked(marks, mark, value, &a, &b) {
+            Some(b)
+        } else {
+            None
+        }
+    }
+
+    // Whether p precedes the write u of a member that the chain doesn't place.
+    fn hard_holds(&self, marks: &[usize], mark: usize, value: usize, p: u32, u: u32) -> bool
+        requires case { IsCase self.now }
+        requires marks_size { length marks.now ≡ length self.now.key.now.values + 1 }
+        ensures { (chain : List ℕ) (c : ℕ) → IsWalked (case_ops self.now) chain marks.now mark value c
+            → IsTrue result ↔ HardHolds (case_ops self.now) self.now.d (case_stuck self.now) chain c p u }
+    {
+        match self.unplaced(marks, mark, value, p, u) {
+            Some(b) => match b.kind {
+                Kind::Read => false,
+                Kind::Write => true,
+            },
+            None => false,
+        }
+    }
+
+    // Whether p precedes the reads q and q2 of two members that the chain doesn't place.
+    fn soft_holds(
+        &self,
+        marks: &[usize],
+        mark: usize,
+        value: usize,
+        p: u32,
+        q: u32,
+        q2: u32,
+    ) -> bool
+        requires case { IsCase self.now }
+        requires marks_size { length marks.now ≡ length self.now.key.now.values + 1 }
+        ensures { (chain : List ℕ) (c : ℕ) → IsWalked (case_ops self.now) chain marks.now mark value c
+            → IsTrue result ↔ SoftHolds (case_ops self.now) self.now.d (case_stuck self.now) chain c p q q2 }
+    {
+        let Some(a) = self.unplaced(marks, mark, value, p, q) else {
+            return false;
+        };
+        let Some(b) = self.unplaced(marks, mark, value, p, q2) else {
+            return false;
+        };
+        are_reads_apart(&a, &b)
+    }
+
+    // Whether the end of a chain holds, whose values have this mark, and whose last value is this one.
+    fn end_holds(&self, marks: &[usize], mark: usize, value: usize, end: &End) -> bool
+        requires case { IsCase self.now }
+        requires marks_size { length marks.now ≡ length self.now.key.now.values + 1 }
+        ensures { (chain : List ℕ) (c : ℕ) → IsWalked (case_ops self.now) chain marks.now mark value c
+            → IsTrue result ↔ EndHolds (case_ops self.now) self.now.d (case_stuck self.now) chain c end.now }
+    {
+        match end {
+            End::Hard { p, u } => self.hard_holds(marks, mark, value, *p, *u),
+            End::Soft { p, q, q2 } => self.soft_holds(marks, mark, value, *p, *q, *q2),
+        }
+    }
+
+    // Whether the try of a member holds. The marks are less than this one before, and no greater afterwards.
+    fn try_holds(&self, marks: &mut [usize], mark: usize, member: u32, attempt: &Try) -> bool
+        requires case { IsCase self.now }
+        requires marks_size { length marks.old ≡ length self.now.key.now.values + 1 }
+        requires earlier { All (λ m. m < mark) marks.old }
+        ensures holds { IsTrue result ↔ TryHolds (case_ops self.now) self.now.d (case_stuck self.now) member attempt.now }
+        ensures marked { All (λ m. m ≤ mark) marks.new }
+    {
+        let chain = attempt.chain.as_slice();
+        match chain.first() {
+            Some(first) if *first == member => {}
+            _ => return false,
+        }
+        match self.chain_end(marks, mark, chain) {
+            Some(value) => self.end_holds(marks, mark, value, &attempt.end),
+            None => false,
+        }
+    }
+
+    // The member of the first try that doesn't hold.
+    fn first_failed(&self, alloc: Global) -> Result<Option<u32>, Memory>
+        requires case { IsCase self.now }
+        requires as_many { length self.now.refutation.now.tries ≡ length self.now.refutation.now.stuck }
+        ensures { IfOk result (FindsFailed (case_ops self.now) self.now.d self.now.refutation.now) }
+    {
+        let stuck = self.refutation.stuck.as_slice();
+        let mut marks = vec![in alloc; 0usize; self.members.len()].map_err(|_| Memory)?;
+        for (place, attempt) in self.refutation.tries.as_slice().iter().enumerate() {
+            let member = stuck[place];
+            if !self.try_holds(&mut marks, place + 1, member, attempt) {
+                return Ok(Some(member));
+            }
+        }
+        Ok(None)
+    }
+}
+
+// The record that is named where there is no stranger among the members, and these are the marks of their values.
+fn tries_fault(
+    alloc: Global,
+    d: u64,
+    key: &KeyOps,
+    hints: &Hints,
+    refutation: &Refutation,
+    members: &[bool],
+) -> Result<Option<u32>, Memory>
+    requires valid { IsValidKey key.now }
+    requires matched { IsMatchedKey (operations key.now) }
+    requires members { AreMembers (operations key.now) refutation.now.stuck members.now }
+    requires size { length members.now ≡ length key.now.values + 1 }
+    ensures { IfOk result (IsRefutationCheck (operations key.now) d refutation.now) }
+{
+    let stuck = refutation.stuck.as_slice();
+    if stuck.is_empty() || refutation.tries.as_slice().len() != stuck.len() {
+        return Ok(Some(0));
+    }
+    let spans = spans_of(alloc, key)?;
+    let case = Case {
+        d,
+        key,
+        hints,
+        refutation,
+        members,
+        spans: &spans,
+    };
+    case.first_failed(alloc)
+}
 
 /// The record that is named where the refutation doesn't hold at d.
 pub(crate) fn refutation_fault(
@@ -22,7 +325,10 @@ pub(crate) fn refutation_fault(
     requires matched { IsMatchedKey (operations key.now) }
     ensures { IfOk result (IsRefutationCheck (operations key.now) d refutation.now) }
 {
-    Err(Memory)
+    match members_of(alloc, key, hints, refutation.stuck.as_slice())? {
+        Members::Stranger { rec } => Ok(Some(rec)),
+        Members::Marks(marks) => tries_fault(alloc, d, key, hints, refutation, &marks),
+    }
 }
 
 /// Whether a refutation holds, so that no order of all operations exists in which each read returns one of the last

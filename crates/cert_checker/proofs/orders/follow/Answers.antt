@@ -5,6 +5,7 @@ use Rattle.std.proofs.lemmas.Option.{slice_get-get_or, slice_get_within}
 use Rattle.stale_model.specs.declared.Op.{Op}
 use Rattle.stale_model.specs.Operations.{operations, records_of}
 use Rattle.stale_model.specs.Orders.{StandsAt}
+use Rattle.stale_model.proofs.Places.{contains_at}
 use Rattle.cert_checker.specs.declared.records.Placed.{Placed}
 use Rattle.cert_checker.specs.Records.{IsPlaced, IsFound}
 use Rattle.cert_checker.specs.OrderFaults.{StandsTo}
@@ -48,7 +49,7 @@ loop-rec-preserved c =
     let pushed = rw went at c.push.ensures.items in
     record {
       one_each = length-set c.loop-rec.marks.items c.in-Some.found.place true ∙ c.loop-rec.invariant.one_each;
-      good = good_more (records_of ops) order n rec c.in-Some.found.place rises at there c.loop-rec.invariant.good
+      good = good_more order n rec at (Contains (records_of ops)) (contains_at (records_of ops) c.in-Some.found.place rec there) c.loop-rec.invariant.good
           (fresh_at c.loop-rec.marks.items (records_of ops) order n c.in-Some.found.place rec c.loop-rec.invariant.marked there
           (read_is c.loop-rec.marks.items c.in-Some.found.place c.index.result.now false c.index.ensures c.if-not-index.true));
       marked = marks_more (records_of ops) order n rec c.in-Some.found.place rises at there c.loop-rec.marks.items
