@@ -3,16 +3,13 @@ use Rattle.std.proofs.Common.{◌≡◌, inl, inr, ◌<◌, ◌≤◌, ◌+◌, 
 use Rattle.std.specs.Prelude.{Contains}
 use Rattle.std.proofs.lemmas.Option.{slice_get_within}
 use Rattle.stale_model.specs.declared.Op.{Op}
-use Rattle.stale_model.specs.declared.KeyOps.{KeyOps}
-use Rattle.stale_model.specs.Operations.{operations}
-use Rattle.stale_model.specs.Valid.{IsValidKey}
-use Rattle.stale_model.specs.NamedWrites.{NamesItsWrites}
 use Rattle.stale_model.specs.Orders.{StandsAt}
 use Rattle.stale_model.specs.Refutations.{Forces}
 use Rattle.stale_model.proofs.Places.{at_its_place, same_at}
 use Rattle.cert_checker.specs.OrderFaults.{StandsTo}
-use Rattle.cert_checker.specs.declared.refutations.Span.{Span}
-use Rattle.cert_checker.specs.RefutationSteps.{IsSpan, IsWrittenBy, HaveMark, IsChain, FindsEnd}
+use Rattle.cert_checker.specs.declared.refutations.Case.{Case}
+use Rattle.cert_checker.specs.RefutationSteps.{case_ops, case_stuck, IsCase, IsWrittenBy, HaveMark, IsChain, IsWalked, FindsEnd}
+use Rattle.cert_checker.proofs.Cases.{case_names, span_in, span_at}
 use Rattle.cert_checker.proofs.Marks.{IsGoodTo, entry}
 use Rattle.cert_checker.proofs.Starts.{below_or_at}
 use Rattle.cert_checker.proofs.Spans.{forces_from_spans, spans_from_forces}
@@ -46,30 +43,31 @@ forced_more ops d chain n rec at link to i c next low there after = elim (below_
 pub no_link : (ops : List Op) (d : ℕ) (chain : List ℕ) (n rec : ℕ) → n ≡ 0 → (i c : ℕ) → i + 1 ≡ n → StandsAt chain i c → Forces ops d c rec
 no_link ops d chain n rec none i c e there = absurd (omega (arith, none, e))
 
--- the entry at place n, of this value, and the one before it
-module _ (key : KeyOps) (valid : IsValidKey key) (d : ℕ) (chain : List ℕ) (n rec value before : ℕ) (at : StandsAt chain n rec)
-    (by : IsWrittenBy (operations key) value rec) (last : IsLast (operations key) chain n before) (span after : Span)
-    (span_is : IsSpan (operations key) (length (operations key)) before span) (after_is : IsSpan (operations key) (length (operations key)) value after) where
-  pub link : span.finish + d < after.start → (i c : ℕ) → i + 1 ≡ n → StandsAt chain i c → Forces (operations key) d c rec
+-- an entry that stood before is in no chain
+pub stood_before : (case : Case) (chain : List ℕ) (n rec : ℕ) → StandsAt chain n rec → StandsTo chain n rec → IsChain case chain → ⊥
+stood_before case chain n rec at s is = omega (arith, s.before, is.once s.earlier n rec s.there at)
+
+-- the entry at place n, of this value, and the one before it, by their spans
+module _ (case : Case) (is : IsCase case) (chain : List ℕ) (n rec value before : ℕ) (at : StandsAt chain n rec)
+    (by : IsWrittenBy (case_ops case) value rec) (last : IsLast (case_ops case) chain n before) where
+  pub link : (span_in case before).finish + case.d < (span_in case value).start → (i c : ℕ) → i + 1 ≡ n → StandsAt chain i c → Forces (case_ops case) case.d c rec
   link less i c e there =
       let place : i ≡ last.place = omega (arith, e, last.next) in
       let same : c ≡ last.c = same_at chain last.place c last.c (subst (λ p. StandsAt chain p c) place there) last.there in
-      subst (λ x. Forces (operations key) d x rec) (sym same) (forces_from_spans key valid d before value last.c rec span after span_is after_is last.by by less)
+      subst (λ x. Forces (case_ops case) case.d x rec) (sym same)
+      (forces_from_spans case.key.now is.valid case.d before value last.c rec (span_in case before) (span_in case value) (span_at case is before last.c last.by) (span_at case is value rec by) last.by by less)
 
-  pub not_forced : NamesItsWrites (operations key) → (stuck : List ℕ) → (span.finish + d < after.start → ⊥) → IsChain (operations key) d stuck chain → ⊥
-  not_forced names stuck not is =
-      not (spans_from_forces key valid d before value last.c rec span after span_is after_is last.by by names
-      (is.forced last.place last.c rec last.there (subst (λ p. StandsAt chain p rec) (sym last.next) at)))
-
--- an entry that stood before is in no chain
-pub stood_before : (ops : List Op) (d : ℕ) (stuck chain : List ℕ) (n rec : ℕ) → StandsAt chain n rec → StandsTo chain n rec → IsChain ops d stuck chain → ⊥
-stood_before ops d stuck chain n rec at s is = omega (arith, s.before, is.once s.earlier n rec s.there at)
+  pub not_forced : ((span_in case before).finish + case.d < (span_in case value).start → ⊥) → IsChain case chain → ⊥
+  not_forced not chained =
+      not
+      (spans_from_forces case.key.now is.valid case.d before value last.c rec (span_in case before) (span_in case value) (span_at case is before last.c last.by) (span_at case is value rec by) last.by by
+      (case_names case is) (chained.forced last.place last.c rec last.there (subst (λ p. StandsAt chain p rec) (sym last.next) at)))
 
 -- past the end of the chain
-pub finds_end : (ops : List Op) (d : ℕ) (stuck chain marks : List ℕ) (mark n : ℕ) (last : Option ℕ) → length chain ≤ n → n ≤ length chain → IsGoodTo (Contains stuck) chain n
-    → IsForcedTo ops d chain n → HaveMark ops chain n marks mark → LastIs ops chain n last → FindsEnd ops d stuck chain marks mark last
-finds_end ops d stuck chain marks mark n None past within good forced marked none = λ is. let some = is.some in omega arith
-finds_end ops d stuck chain marks mark n (Some value) past within good forced marked last = (
+pub finds_end : (case : Case) (chain marks : List ℕ) (mark n : ℕ) (last : Option ℕ) → length chain ≤ n → n ≤ length chain → IsGoodTo (Contains (case_stuck case)) chain n
+    → IsForcedTo (case_ops case) case.d chain n → HaveMark (case_ops case) chain n marks mark → LastIs (case_ops case) chain n last → FindsEnd case chain marks mark last
+finds_end case chain marks mark n None past within good forced marked none = λ is. let some = is.some in omega arith
+finds_end case chain marks mark n (Some value) past within good forced marked last = (
   record {
     some = let next = last.next in omega arith;
     members = λ x c. good.known c.0 x (low c.0 x (at_its_place chain x c)) (at_its_place chain x c);
@@ -81,7 +79,7 @@ finds_end ops d stuck chain marks mark n (Some value) past within good forced ma
     record {
       last_is = subst (λ p. StandsAt chain p last.c) (let next = last.next in let e : last.place ≡ length chain - 1 = omega arith in e) last.there;
       value_is = last.by;
-      marked = subst (λ k. HaveMark ops chain k marks mark) (let e : n ≡ length chain = omega arith in e) marked;
+      marked = subst (λ k. HaveMark (case_ops case) chain k marks mark) (let e : n ≡ length chain = omega arith in e) marked;
     },
   ),
 ) where

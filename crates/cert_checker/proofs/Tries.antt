@@ -9,17 +9,19 @@ use Rattle.stale_model.specs.Refutations.{EndHolds, TryHolds}
 use Rattle.stale_model.proofs.Places.{same_at}
 use Rattle.cert_checker.specs.OrderFaults.{IsFirstWrong}
 use Rattle.cert_checker.specs.RefutationFaults.{IsFailedTry, IsRefutationCheck}
-use Rattle.cert_checker.specs.RefutationSteps.{AreMembers, IsChain, IsWalked, FindsFailed}
+use Rattle.cert_checker.specs.declared.refutations.Case.{Case}
+use Rattle.cert_checker.specs.RefutationSteps.{AreMembers, case_ops, case_stuck, IsChain, IsWalked, FindsFailed}
 use Rattle.cert_checker.proofs.InOrder.{not_below}
 use Rattle.cert_checker.proofs.MemberMarks.{no_strangers}
 use Rattle.cert_checker.proofs.Starts.{below_or_at}
 
-module _ (ops : List Op) (d : ℕ) (stuck : List ℕ) (member : ℕ) (attempt : Try) where
-  pub chain_from_try : TryHolds ops d stuck member attempt → IsChain ops d stuck attempt.chain
+module _ (case : Case) (member : ℕ) (attempt : Try) where
+  pub chain_from_try : TryHolds (case_ops case) case.d (case_stuck case) member attempt → IsChain case attempt.chain
   chain_from_try t = record { some = slice_get_within attempt.chain 0 member t.begins; members = t.members; once = t.once; forced = t.forced }
 
-  module _ (marks : List ℕ) (mark value c : ℕ) (walked : IsWalked ops attempt.chain marks mark value c) where
-    pub try_from_end : StandsAt attempt.chain 0 member → IsChain ops d stuck attempt.chain → EndHolds ops d stuck attempt.chain c attempt.end → TryHolds ops d stuck member attempt
+  module _ (marks : List ℕ) (mark value c : ℕ) (walked : IsWalked case attempt.chain marks mark value c) where
+    pub try_from_end : StandsAt attempt.chain 0 member → IsChain case attempt.chain → EndHolds (case_ops case) case.d (case_stuck case) attempt.chain c attempt.end
+        → TryHolds (case_ops case) case.d (case_stuck case) member attempt
     try_from_end begins chain end = record {
       begins = begins;
       members = chain.members;
@@ -30,8 +32,10 @@ module _ (ops : List Op) (d : ℕ) (stuck : List ℕ) (member : ℕ) (attempt : 
       end = end;
     }
 
-    pub end_from_try : TryHolds ops d stuck member attempt → EndHolds ops d stuck attempt.chain c attempt.end
-    end_from_try t = subst (λ x. EndHolds ops d stuck attempt.chain x attempt.end) (same_at attempt.chain (length attempt.chain - 1) t.last c t.last_is walked.last_is) t.end
+    pub end_from_try : TryHolds (case_ops case) case.d (case_stuck case) member attempt → EndHolds (case_ops case) case.d (case_stuck case) attempt.chain c attempt.end
+    end_from_try t =
+        subst (λ x. EndHolds (case_ops case) case.d (case_stuck case) attempt.chain x attempt.end)
+        (same_at attempt.chain (length attempt.chain - 1) t.last c t.last_is walked.last_is) t.end
 
 -- the tries of the members before place n hold
 abbrev pub AreHeld : List Op → ℕ → Refutation → ℕ → Type 0

@@ -1,16 +1,18 @@
 -- What the steps of the check of a refutation find.
-use Rattle.std.specs.Prelude.{◌≡◌, ◌≢◌, ℕ, ◌⊎◌, ◌+◌, ◌-◌, ◌^◌, ◌<◌, ◌≤◌, max, min, true, Bool, List, length, Contains, Option, Some, None}
+use Rattle.std.specs.Prelude.{◌≡◌, ◌≢◌, ◌↔◌, IsTrue, ℕ, ◌⊎◌, ◌+◌, ◌-◌, ◌^◌, ◌<◌, ◌≤◌, max, min, true, Bool, List, length, Contains, Option, Some, None}
 use Rattle.stale_model.specs.declared.Op.{Op}
 use Rattle.stale_model.specs.declared.Kind.{Kind}
 use Rattle.stale_model.specs.declared.Kind.TheVariants.{Read, Write}
+use Rattle.stale_model.specs.declared.KeyOps.{KeyOps}
 use Rattle.stale_model.specs.declared.Refutation.{Refutation}
+use Rattle.stale_model.specs.declared.End.{End}
 use Rattle.stale_model.specs.declared.Try.{Try}
 use Rattle.stale_model.specs.Operations.{operations, IsRead, IsWrite, earliest_start, latest_finish}
 use Rattle.stale_model.specs.Faults.{IsWriteOf, IsMatchedKey}
 use Rattle.stale_model.specs.Valid.{IsValidKey}
 use Rattle.stale_model.specs.Orders.{StandsAt, IsWithoutRepeats}
 use Rattle.stale_model.specs.Precedence.{Precedes}
-use Rattle.stale_model.specs.Refutations.{IsOfRecord, Forces, PrecedesUnplaced, TryHolds}
+use Rattle.stale_model.specs.Refutations.{IsOfRecord, Forces, PrecedesUnplaced, HardHolds, SoftHolds, EndHolds, TryHolds}
 use Rattle.cert_checker.specs.OrderFaults.{IsFirstWrong, StandsTo}
 use Rattle.cert_checker.specs.RefutationFaults.{IsStranger, IsFailedTry}
 use Rattle.cert_checker.specs.declared.refutations.Span.{Span}
@@ -53,6 +55,10 @@ pub record IsSpan (ops : List Op) (n value : ℕ) (span : Span) : Type 0 where
 abbrev pub AreSpans : List Op → ℕ → List Span → Type 0
 AreSpans ops n spans = (value : ℕ) (span : Span) → StandsAt spans value span → IsSpan ops n value span
 
+-- the spans of all operations of a key
+abbrev pub AreSpansOf : KeyOps → List Span → Type 0
+AreSpansOf key spans = AreSpans (operations key) (length (operations key)) spans
+
 -- c is the record of the write of this value
 pub record IsWrittenBy (ops : List Op) (value c : ℕ) : Type 0 where
   pub w : Op
@@ -79,10 +85,10 @@ pub record AreMembers (ops : List Op) (stuck : List ℕ) (marks : List Bool) : T
   pub once : IsWithoutRepeats stuck
   pub marked : HaveMark ops stuck (length stuck) marks true
 
--- the marks of the members, one for each of this many values, or the first entry that is no write or stood before
-abbrev pub FindsMembers : List Op → ℕ → List ℕ → Members → Type 0
-FindsMembers ops slots stuck (Stranger rec) = IsFirstWrong (IsStranger ops stuck) stuck rec
-FindsMembers ops slots stuck (Marks marks) = AreMembers ops stuck marks.items × (length marks.items ≡ slots)
+-- the marks of the members, one for each value, or the first entry that is no write or stood before
+abbrev pub FindsMembers : KeyOps → List ℕ → Members → Type 0
+FindsMembers key stuck (Stranger rec) = IsFirstWrong (IsStranger (operations key) stuck) stuck rec
+FindsMembers key stuck (Marks marks) = AreMembers (operations key) stuck marks.items × (length marks.items ≡ length key.values + 1)
 
 -- the operations of a case, and its members
 abbrev pub case_ops : Case → List Op
@@ -97,38 +103,38 @@ pub record IsCase (case : Case) : Type 0 where
   pub matched : IsMatchedKey (case_ops case)
   pub members : AreMembers (case_ops case) (case_stuck case) case.members.now
   pub members_size : length case.members.now ≡ length case.key.now.values + 1
-  pub spans : AreSpans (case_ops case) (length (case_ops case)) case.spans.now
+  pub spans : AreSpansOf case.key.now case.spans.now
   pub spans_size : length case.spans.now ≡ length case.key.now.values + 1
 
 -- the value of the member with this record, or that there is none
-abbrev pub FindsMember : List Op → List ℕ → ℕ → Option ℕ → Type 0
-FindsMember ops stuck rec None = Contains stuck rec → ⊥
-FindsMember ops stuck rec (Some value) = IsWrittenBy ops value rec × Contains stuck rec
+abbrev pub FindsMember : Case → ℕ → Option ℕ → Type 0
+FindsMember case rec None = Contains (case_stuck case) rec → ⊥
+FindsMember case rec (Some value) = IsWrittenBy (case_ops case) value rec × Contains (case_stuck case) rec
 
 -- the chain has members alone, each once, and each forces the next
-pub record IsChain (ops : List Op) (d : ℕ) (stuck chain : List ℕ) : Type 0 where
+pub record IsChain (case : Case) (chain : List ℕ) : Type 0 where
   pub some : 0 < length chain
-  pub members : (c : ℕ) → Contains chain c → Contains stuck c
+  pub members : (c : ℕ) → Contains chain c → Contains (case_stuck case) c
   pub once : IsWithoutRepeats chain
-  pub forced : (i c next : ℕ) → StandsAt chain i c → StandsAt chain (i + 1) next → Forces ops d c next
+  pub forced : (i c next : ℕ) → StandsAt chain i c → StandsAt chain (i + 1) next → Forces (case_ops case) case.d c next
 
 -- the values of the chain have this mark, and `last` is the value of its last write c
-pub record IsWalked (ops : List Op) (chain marks : List ℕ) (mark last c : ℕ) : Type 0 where
+pub record IsWalked (case : Case) (chain marks : List ℕ) (mark last c : ℕ) : Type 0 where
   pub last_is : StandsAt chain (length chain - 1) c
-  pub value_is : IsWrittenBy ops last c
-  pub marked : HaveMark ops chain (length chain) marks mark
+  pub value_is : IsWrittenBy (case_ops case) last c
+  pub marked : HaveMark (case_ops case) chain (length chain) marks mark
 
 -- the value at which the chain ends, or that it is none
-abbrev pub FindsEnd : List Op → ℕ → List ℕ → List ℕ → List ℕ → ℕ → Option ℕ → Type 0
-FindsEnd ops d stuck chain marks mark None = IsChain ops d stuck chain → ⊥
-FindsEnd ops d stuck chain marks mark (Some last) = IsChain ops d stuck chain × ((c : ℕ) × IsWalked ops chain marks mark last c)
+abbrev pub FindsEnd : Case → List ℕ → List ℕ → ℕ → Option ℕ → Type 0
+FindsEnd case chain marks mark None = IsChain case chain → ⊥
+FindsEnd case chain marks mark (Some last) = IsChain case chain × ((c : ℕ) × IsWalked case chain marks mark last c)
 
 -- a, of this value, precedes b, of a member whose value doesn't have this mark
-pub record PrecedesUnmarked (d : ℕ) (members : List Bool) (marks : List ℕ) (mark value : ℕ) (a b : Op) : Type 0 where
+pub record PrecedesUnmarked (case : Case) (marks : List ℕ) (mark value : ℕ) (a b : Op) : Type 0 where
   pub of_value : a.value ≡ value
-  pub member : StandsAt members b.value true
+  pub member : StandsAt case.members.now b.value true
   pub unmarked : StandsAt marks b.value mark → ⊥
-  pub precedes : Precedes d a b
+  pub precedes : Precedes case.d a b
 
 -- both are reads, of two values
 pub record AreReadsApart (a b : Op) : Type 0 where
@@ -136,10 +142,32 @@ pub record AreReadsApart (a b : Op) : Type 0 where
   pub second : IsRead b
   pub apart : a.value ≢ b.value
 
--- x, of a cluster that the chain doesn't place, or that p, of the cluster of c, doesn't precede one
-abbrev pub FindsUnplaced : List Op → ℕ → List ℕ → List ℕ → ℕ → ℕ → ℕ → Option Op → Type 0
-FindsUnplaced ops d stuck chain c p x None = PrecedesUnplaced ops d stuck chain c p x → ⊥
-FindsUnplaced ops d stuck chain c p x (Some b) = (late : PrecedesUnplaced ops d stuck chain c p x) × (late.b ≡ b)
+-- this holds of each chain whose walk left these marks, and of its last write
+abbrev pub AfterWalk : Case → List ℕ → ℕ → ℕ → (List ℕ → ℕ → Type 0) → Type 0
+AfterWalk case marks mark value Holds = (chain : List ℕ) (c : ℕ) → IsWalked case chain marks mark value c → Holds chain c
+
+-- p, of the cluster of c, precedes x, of a cluster that the chain doesn't place
+abbrev pub IsUnplacedAfter : Case → List ℕ → ℕ → ℕ → ℕ → Type 0
+IsUnplacedAfter case chain c p x = PrecedesUnplaced (case_ops case) case.d (case_stuck case) chain c p x
+
+-- the operation x, which p precedes, of a cluster that the chain doesn't place, or that it is none
+abbrev pub FindsUnplaced : Case → ℕ → ℕ → Option Op → List ℕ → ℕ → Type 0
+FindsUnplaced case p x None chain c = IsUnplacedAfter case chain c p x → ⊥
+FindsUnplaced case p x (Some b) chain c = (late : IsUnplacedAfter case chain c p x) × (late.b ≡ b)
+
+-- whether the one or the other end of the chain holds
+abbrev pub TellsHard : Case → ℕ → ℕ → Bool → List ℕ → ℕ → Type 0
+TellsHard case p u answer chain c = IsTrue answer ↔ HardHolds (case_ops case) case.d (case_stuck case) chain c p u
+
+abbrev pub TellsSoft : Case → ℕ → ℕ → ℕ → Bool → List ℕ → ℕ → Type 0
+TellsSoft case p q q2 answer chain c = IsTrue answer ↔ SoftHolds (case_ops case) case.d (case_stuck case) chain c p q q2
+
+abbrev pub TellsEnd : Case → End → Bool → List ℕ → ℕ → Type 0
+TellsEnd case end answer chain c = IsTrue answer ↔ EndHolds (case_ops case) case.d (case_stuck case) chain c end
+
+-- whether the try of a member holds
+abbrev pub TellsTry : Case → ℕ → Try → Bool → Type 0
+TellsTry case member attempt answer = IsTrue answer ↔ TryHolds (case_ops case) case.d (case_stuck case) member attempt
 
 -- the member of the first try that doesn't hold, or that all do
 abbrev pub FindsFailed : List Op → ℕ → Refutation → Option ℕ → Type 0

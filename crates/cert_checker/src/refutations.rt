@@ -1,11 +1,10 @@
 //! Refutations of 2-atomicity: members that are writes, and a try for each.
-ghost use Rattle.std.specs.Prelude.{◌≡◌, ◌+◌, ◌^◌, ◌<◌, ◌≤◌, ◌↔◌, ℕ, List, All, IfOk, IsTrue, length};
+ghost use Rattle.std.specs.Prelude.{◌≡◌, ◌+◌, ◌^◌, ◌<◌, ◌≤◌, ◌↔◌, All, IfOk, IsTrue, length};
 ghost use Rattle.stale_model.specs.Operations.{operations, latest_finish};
 ghost use Rattle.stale_model.specs.Valid.{IsValidKey};
 ghost use Rattle.stale_model.specs.Faults.{IsMatchedKey};
-ghost use Rattle.stale_model.specs.Refutations.{HardHolds, SoftHolds, EndHolds, TryHolds};
 ghost use Rattle.cert_checker.specs.RefutationFaults.{IsRefutationCheck, FindsRefutation};
-ghost use Rattle.cert_checker.specs.RefutationSteps.{with_op, AreSpans, FindsWritten, FindsMembers, AreMembers, case_ops, case_stuck, IsCase, FindsMember, FindsEnd, IsWalked, PrecedesUnmarked, AreReadsApart, FindsUnplaced, FindsFailed};
+ghost use Rattle.cert_checker.specs.RefutationSteps.{with_op, AreSpansOf, FindsWritten, FindsMembers, AreMembers, case_ops, case_stuck, IsCase, FindsMember, FindsEnd, PrecedesUnmarked, AreReadsApart, AfterWalk, FindsUnplaced, TellsHard, TellsSoft, TellsEnd, TellsTry, FindsFailed};
 
 use crate::Found;
 use crate::records::{Hints, precedes};
@@ -46,7 +45,7 @@ impl Span {
 // The span of each value.
 fn spans_of(alloc: Global, key: &KeyOps) -> Result<Vec<Span>, Memory>
     requires { IsValidKey key.now }
-    ensures spans { IfOk result (λ spans. AreSpans (operations key.now) (length (operations key.now)) spans.items) }
+    ensures spans { IfOk result (λ spans. AreSpansOf key.now spans.items) }
     ensures size { IfOk result (λ spans. length spans.items ≡ length key.now.values + 1) }
 {
     let slots = key.values.as_slice().len() + 1;
@@ -88,7 +87,7 @@ enum Members {
 fn members_of(alloc: Global, key: &KeyOps, hints: &Hints, stuck: &[u32]) -> Result<Members, Memory>
     requires valid { IsValidKey key.now }
     requires matched { IsMatchedKey (operations key.now) }
-    ensures { IfOk result (FindsMembers (operations key.now) (length key.now.values + 1) stuck.now) }
+    ensures { IfOk result (FindsMembers key.now stuck.now) }
 {
     let slots = key.values.as_slice().len() + 1;
     let mut marks = vec![in alloc; false; slots].map_err(|_| Memory)?;
@@ -111,7 +110,7 @@ fn are_reads_apart(a: &Op, b: &Op) -> bool
     }
 }
 
-// What each try is checked against: a refutation of a key at d, with the members' marks and the spans by value.
+// What the tries of a refutation are checked against at d: marks of the members and spans, both by value.
 #[derive(Clone, Copy)]
 struct Case<'a> {
     d: u64,
@@ -126,7 +125,7 @@ impl Case<'_> {
     // The value of the member with this record, if there is one.
     fn member_value(&self, rec: u32) -> Option<usize>
         requires { IsCase self.now }
-        ensures { FindsMember (case_ops self.now) (case_stuck self.now) rec result }
+        ensures { FindsMember self.now rec result }
     {
         let value = written_value(self.key, self.hints, rec)?;
         if self.members[value] {
@@ -136,13 +135,13 @@ impl Case<'_> {
         }
     }
 
-    // Walks a chain, and gives its last value where it is one of members, each once and each forced by the one before
-    // it. Its values get this mark, which is greater than those of the chains before.
+    // The last value of a chain, if it is one of members, each once and each forced by the one before it. Its values
+    // get this mark, which is greater than those of the chains before.
     fn chain_end(&self, marks: &mut [usize], mark: usize, chain: &[u32]) -> Option<usize>
         requires case { IsCase self.now }
         requires marks_size { length marks.old ≡ length self.now.key.now.values + 1 }
         requires earlier { All (λ m. m < mark) marks.old }
-        ensures end { FindsEnd (case_ops self.now) self.now.d (case_stuck self.now) chain.now marks.new mark result }
+        ensures end { FindsEnd self.now chain.now marks.new mark result }
         ensures marked { All (λ m. m ≤ mark) marks.new }
     {
         let mut last: Option<usize> = None;
@@ -167,7 +166,7 @@ impl Case<'_> {
         requires members_size { b.now.value < length self.now.members.now }
         requires marks_size { b.now.value < length marks.now }
         requires ends { latest_finish a.now < 2 ^ 64 }
-        ensures { IsTrue result ↔ PrecedesUnmarked self.now.d self.now.members.now marks.now mark value a.now b.now }
+        ensures { IsTrue result ↔ PrecedesUnmarked self.now marks.now mark value a.now b.now }
     {
         let other = b.value as usize;
         a.value as usize == value
@@ -176,12 +175,11 @@ impl Case<'_> {
             && precedes(self.d, a, b)
     }
 
-    // The operation x, of a member whose value doesn't have this mark, where p, an operation of this value, precedes it.
+    // The operation x, if it is of a member whose value doesn't have this mark, and p, of this value, precedes it.
     fn unplaced(&self, marks: &[usize], mark: usize, value: usize, p: u32, x: u32) -> Option<Op>
         requires case { IsCase self.now }
         requires marks_size { length marks.now ≡ length self.now.key.now.values + 1 }
-        ensures { (chain : List ℕ) (c : ℕ) → IsWalked (case_ops self.now) chain marks.now mark value c
-            → FindsUnplaced (case_ops self.now) self.now.d (case_stuck self.now) chain c p x result }
+        ensures { AfterWalk self.now marks.now mark value (FindsUnplaced self.now p x result) }
     {
         let a = self.hints.find(self.key, p)?.op;
         let b = self.hints.find(self.key, x)?.op;
@@ -196,8 +194,7 @@ impl Case<'_> {
     fn hard_holds(&self, marks: &[usize], mark: usize, value: usize, p: u32, u: u32) -> bool
         requires case { IsCase self.now }
         requires marks_size { length marks.now ≡ length self.now.key.now.values + 1 }
-        ensures { (chain : List ℕ) (c : ℕ) → IsWalked (case_ops self.now) chain marks.now mark value c
-            → IsTrue result ↔ HardHolds (case_ops self.now) self.now.d (case_stuck self.now) chain c p u }
+        ensures { AfterWalk self.now marks.now mark value (TellsHard self.now p u result) }
     {
         match self.unplaced(marks, mark, value, p, u) {
             Some(b) => match b.kind {
@@ -220,8 +217,7 @@ impl Case<'_> {
     ) -> bool
         requires case { IsCase self.now }
         requires marks_size { length marks.now ≡ length self.now.key.now.values + 1 }
-        ensures { (chain : List ℕ) (c : ℕ) → IsWalked (case_ops self.now) chain marks.now mark value c
-            → IsTrue result ↔ SoftHolds (case_ops self.now) self.now.d (case_stuck self.now) chain c p q q2 }
+        ensures { AfterWalk self.now marks.now mark value (TellsSoft self.now p q q2 result) }
     {
         let Some(a) = self.unplaced(marks, mark, value, p, q) else {
             return false;
@@ -236,8 +232,7 @@ impl Case<'_> {
     fn end_holds(&self, marks: &[usize], mark: usize, value: usize, end: &End) -> bool
         requires case { IsCase self.now }
         requires marks_size { length marks.now ≡ length self.now.key.now.values + 1 }
-        ensures { (chain : List ℕ) (c : ℕ) → IsWalked (case_ops self.now) chain marks.now mark value c
-            → IsTrue result ↔ EndHolds (case_ops self.now) self.now.d (case_stuck self.now) chain c end.now }
+        ensures { AfterWalk self.now marks.now mark value (TellsEnd self.now end.now result) }
     {
         match end {
             End::Hard { p, u } => self.hard_holds(marks, mark, value, *p, *u),
@@ -250,7 +245,7 @@ impl Case<'_> {
         requires case { IsCase self.now }
         requires marks_size { length marks.old ≡ length self.now.key.now.values + 1 }
         requires earlier { All (λ m. m < mark) marks.old }
-        ensures holds { IsTrue result ↔ TryHolds (case_ops self.now) self.now.d (case_stuck self.now) member attempt.now }
+        ensures holds { TellsTry self.now member attempt.now result }
         ensures marked { All (λ m. m ≤ mark) marks.new }
     {
         let chain = attempt.chain.as_slice();
@@ -267,7 +262,7 @@ impl Case<'_> {
     // The member of the first try that doesn't hold.
     fn first_failed(&self, alloc: Global) -> Result<Option<u32>, Memory>
         requires case { IsCase self.now }
-        requires as_many { length self.now.refutation.now.tries ≡ length self.now.refutation.now.stuck }
+        requires as_many { length self.now.refutation.now.tries ≡ length (case_stuck self.now) }
         ensures { IfOk result (FindsFailed (case_ops self.now) self.now.d self.now.refutation.now) }
     {
         let stuck = self.refutation.stuck.as_slice();

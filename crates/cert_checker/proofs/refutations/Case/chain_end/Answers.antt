@@ -3,24 +3,17 @@ use Rattle.std.specs.Prelude.{Contains}
 use Rattle.std.proofs.lemmas.List.{length-set}
 use Rattle.std.proofs.lemmas.Option.{slice_get-get_or, slice_get_within, get_or_from_slice_get}
 use Rattle.stale_model.specs.declared.Op.{Op}
-use Rattle.stale_model.specs.declared.KeyOps.{KeyOps}
 use Rattle.stale_model.specs.Orders.{StandsAt}
-use Rattle.stale_model.specs.Refutations.{Forces}
 use Rattle.stale_model.proofs.Places.{contains_at}
-use Rattle.model_laws.proofs.Named.{matched_keys_name_their_writes}
 use Rattle.cert_checker.specs.OrderFaults.{StandsTo}
-use Rattle.cert_checker.specs.declared.refutations.Span.{Span}
 use Rattle.cert_checker.specs.RefutationSteps.{case_ops, case_stuck, IsWrittenBy}
 use Rattle.cert_checker.proofs.Marks.{good_more}
 use Rattle.cert_checker.proofs.MemberMarks.{written_in_slots}
 use Rattle.cert_checker.proofs.Written.{none_marked, mark_more}
-use Rattle.cert_checker.proofs.Cases.{span_at}
+use Rattle.cert_checker.proofs.Cases.{case_names}
 use Rattle.cert_checker.proofs.ChainWalks.{IsLast, LastIs, forced_more, no_link, link, not_forced, stood_before, finds_end}
 use Rattle.cert_checker.proofs.refutations.Case.chain_end.Goals.{in-Some+else-not-forces, in_default}
 use Rattle.cert_checker.proofs.refutations.Case.chain_end.Goals as goal
-
-abbrev no_times : Span
-no_times = record { finish = 0; start = 0 }
 
 pub loop-rec-init : goal.loop-rec-init
 loop-rec-init c = record {
@@ -40,7 +33,7 @@ returns-in_err-value-clause-end c =
     (is.members (get_or c.args.chain.now c.loop-rec.rec-index 0) (contains_at c.args.chain.now c.loop-rec.rec-index _ (slice_get-get_or c.args.chain.now c.loop-rec.rec-index 0 c.loop-rec-test.true))))
 
 pub returns-then-marks-value-clause-end : goal.returns-then-marks-value-clause-end
-returns-then-marks-value-clause-end c = λ is. stood_before (case_ops c.args.self.now) c.args.self.now.d (case_stuck c.args.self.now) chain n rec at stands is
+returns-then-marks-value-clause-end c = λ is. stood_before c.args.self.now chain n rec at stands is
   where
     chain : List ℕ
     chain = c.args.chain.now
@@ -69,17 +62,9 @@ returns-then-marks-value-clause-end c = λ is. stood_before (case_ops c.args.sel
 
 pub returns-then-not-forces-clause-end : goal.returns-then-not-forces-clause-end
 returns-then-not-forces-clause-end c =
-    not_forced key c.requires.case.valid c.args.self.now.d chain n rec c.in_ok-value.value c.in-Some.before at by last (get_or spans c.in-Some.before no_times) (get_or spans c.in_ok-value.value no_times)
-    (span_at c.args.self.now c.requires.case c.in-Some.before last.c last.by) (span_at c.args.self.now c.requires.case c.in_ok-value.value rec by)
-    (matched_keys_name_their_writes key c.requires.case.valid c.requires.case.matched) (case_stuck c.args.self.now)
+    not_forced c.args.self.now c.requires.case chain n rec c.in_ok-value.value c.in-Some.before at by last
     (λ less. true≢false (sym (c.forces.ensures.1 less) ∙ c.if-not-forces.true))
   where
-    key : KeyOps
-    key = c.args.self.now.key.now
-
-    spans : List Span
-    spans = c.args.self.now.spans.now
-
     chain : List ℕ
     chain = c.args.chain.now
 
@@ -106,16 +91,14 @@ loop-rec-preserved c = record {
   forced = elim c.match-last.branch [
     | in-Some+else-not-forces w ↦
         forced_more ops c.args.self.now.d chain n rec at
-        (linked w.in-Some.before (subst (LastIs ops chain n) w.in-Some.is c.loop-rec.invariant.last) (w.forces.ensures.0 w.if-not-forces.false)) c.loop-rec.invariant.forced
+        (link c.args.self.now c.requires.case chain n rec value w.in-Some.before at by (subst (LastIs ops chain n) w.in-Some.is c.loop-rec.invariant.last) (w.forces.ensures.0 w.if-not-forces.false))
+        c.loop-rec.invariant.forced
     | in_default w ↦ forced_more ops c.args.self.now.d chain n rec at (no_link ops c.args.self.now.d chain n rec (subst (LastIs ops chain n) w.in_default.is c.loop-rec.invariant.last)) c.loop-rec.invariant.forced
   ];
-  marked = mark_more ops (matched_keys_name_their_writes key c.requires.case.valid c.requires.case.matched) chain n rec value marks c.args.mark at by wide c.loop-rec.invariant.marked;
+  marked = mark_more ops (case_names c.args.self.now c.requires.case) chain n rec value marks c.args.mark at by wide c.loop-rec.invariant.marked;
   last = record { place = n; next = refl; c = rec; there = at; by = by };
 }
   where
-    key : KeyOps
-    key = c.args.self.now.key.now
-
     ops : List Op
     ops = case_ops c.args.self.now
 
@@ -141,21 +124,12 @@ loop-rec-preserved c = record {
     by = c.in_ok-value.ensures.0
 
     wide : value < length marks
-    wide = let low = written_in_slots key value rec c.requires.case.valid by in let size = c.loop-rec.invariant.size in omega arith
-
-    spans : List Span
-    spans = c.args.self.now.spans.now
-
-    linked : (before : ℕ) → IsLast ops chain n before → (get_or spans before no_times).finish + c.args.self.now.d < (get_or spans value no_times).start
-        → (i e : ℕ) → i + 1 ≡ n → StandsAt chain i e → Forces ops c.args.self.now.d e rec
-    linked before last less =
-        link key c.requires.case.valid c.args.self.now.d chain n rec value before at by last (get_or spans before no_times) (get_or spans value no_times)
-        (span_at c.args.self.now c.requires.case before last.c last.by) (span_at c.args.self.now c.requires.case value rec by) less
+    wide = let low = written_in_slots c.args.self.now.key.now value rec c.requires.case.valid by in let size = c.loop-rec.invariant.size in omega arith
 
     fresh : StandsTo chain n rec → ⊥
     fresh s = c.if-marks-value.false (get_or_from_slice_get marks value c.args.mark 0 (c.loop-rec.invariant.marked.marked value rec by s))
 
 pub returns-clause-end : goal.returns-clause-end
 returns-clause-end c =
-    finds_end (case_ops c.args.self.now) c.args.self.now.d (case_stuck c.args.self.now) c.args.chain.now c.loop-rec.marks c.args.mark c.loop-rec.rec-index c.loop-rec.last (search rules) (search rules)
+    finds_end c.args.self.now c.args.chain.now c.loop-rec.marks c.args.mark c.loop-rec.rec-index c.loop-rec.last (search rules) (search rules)
     c.loop-rec.invariant.good c.loop-rec.invariant.forced c.loop-rec.invariant.marked c.loop-rec.invariant.last

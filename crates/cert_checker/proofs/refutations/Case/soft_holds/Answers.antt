@@ -1,6 +1,4 @@
 use Rattle.std.proofs.Common.{sym, true≢false}
-use Rattle.model_laws.proofs.Named.{matched_keys_name_their_writes}
-use Rattle.cert_checker.specs.RefutationSteps.{case_ops, case_stuck}
 use Rattle.cert_checker.proofs.Unplaced.{soft_from_reads, reads_from_soft}
 use Rattle.cert_checker.proofs.refutations.Case.soft_holds.Goals as goal
 
@@ -11,12 +9,9 @@ pub returns-in_default-unplaced : goal.returns-in_default-unplaced
 returns-in_default-unplaced c = λ chain e walked. (λ t. absurd (true≢false (sym t)), λ h. absurd (c.in_default-unplaced.ensures chain e walked h.late2))
 
 pub returns : goal.returns
-returns c = λ chain e walked. (
-  λ t.
-      soft_from_reads (case_ops c.args.self.now) (matched_keys_name_their_writes c.args.self.now.key.now c.requires.case.valid c.requires.case.matched) c.args.self.now.d (case_stuck c.args.self.now)
-      chain e c.args.p c.args.q c.args.q2 c.in-Some.a c.in-Some-unplaced.b (c.in-Some.ensures chain e walked) (c.in-Some-unplaced.ensures chain e walked) (c.are_reads_apart.ensures.0 t),
-  λ h.
-      c.are_reads_apart.ensures.1
-      (reads_from_soft (case_ops c.args.self.now) (matched_keys_name_their_writes c.args.self.now.key.now c.requires.case.valid c.requires.case.matched) c.args.self.now.d (case_stuck c.args.self.now)
-      chain e c.args.p c.args.q c.args.q2 c.in-Some.a c.in-Some-unplaced.b (c.in-Some.ensures chain e walked) (c.in-Some-unplaced.ensures chain e walked) h),
-)
+returns c = λ chain e walked.
+    let first = c.in-Some.ensures chain e walked in
+    let second = c.in-Some-unplaced.ensures chain e walked in (
+      λ t. soft_from_reads c.args.self.now c.requires.case chain e c.args.p c.args.q c.args.q2 c.in-Some.a c.in-Some-unplaced.b first second (c.are_reads_apart.ensures.0 t),
+      λ h. c.are_reads_apart.ensures.1 (reads_from_soft c.args.self.now c.requires.case chain e c.args.p c.args.q c.args.q2 c.in-Some.a c.in-Some-unplaced.b first second h),
+    )

@@ -1,6 +1,5 @@
-use Rattle.std.proofs.Common.{sym, true≢false, ◌∙◌}
-use Rattle.model_laws.proofs.Named.{matched_keys_name_their_writes}
-use Rattle.cert_checker.specs.RefutationSteps.{case_ops, case_stuck}
+use Rattle.std.proofs.Common.{sym, ◌∙◌, true≢false}
+use Rattle.cert_checker.specs.RefutationSteps.{case_ops}
 use Rattle.cert_checker.proofs.Lookups.{of_record}
 use Rattle.cert_checker.proofs.Unplaced.{found_unplaced, unmarked_from_late}
 use Rattle.cert_checker.proofs.refutations.Case.unplaced.Goals as goal
@@ -13,8 +12,7 @@ returns-in_err-b c = λ chain e walked. rw c.from_residual-in_err-b.ensures (λ 
 
 pub returns-then-precedes_unmarked : goal.returns-then-precedes_unmarked
 returns-then-precedes_unmarked c = λ chain e walked.
-    found_unplaced (case_ops c.args.self.now) (matched_keys_name_their_writes c.args.self.now.key.now c.requires.case.valid c.requires.case.matched) c.args.self.now.d (case_stuck c.args.self.now)
-    c.args.self.now.members.now c.requires.case.members chain c.args.marks.now c.args.mark c.args.value e walked c.args.p c.args.x c.in_ok-a.field-0.op c.in_ok-b.field-0.op
+    found_unplaced c.args.self.now c.requires.case chain c.args.marks.now c.args.mark c.args.value e walked c.args.p c.args.x c.in_ok-a.field-0.op c.in_ok-b.field-0.op
     (of_record (case_ops c.args.self.now) c.args.p c.in_ok-a.field-0 c.in_ok-a.ensures) (of_record (case_ops c.args.self.now) c.args.x c.in_ok-b.field-0 c.in_ok-b.ensures)
     (c.precedes_unmarked.ensures.0 c.if-precedes_unmarked.true)
 
@@ -23,7 +21,6 @@ returns-else-precedes_unmarked c = λ chain e walked late.
     true≢false
     (sym
     (c.precedes_unmarked.ensures.1
-    (unmarked_from_late (case_ops c.args.self.now) (matched_keys_name_their_writes c.args.self.now.key.now c.requires.case.valid c.requires.case.matched) c.args.self.now.d (case_stuck c.args.self.now)
-    c.args.self.now.members.now c.requires.case.members chain c.args.marks.now c.args.mark c.args.value e walked c.args.p c.args.x c.in_ok-a.field-0.op c.in_ok-b.field-0.op
+    (unmarked_from_late c.args.self.now c.requires.case chain c.args.marks.now c.args.mark c.args.value e walked c.args.p c.args.x c.in_ok-a.field-0.op c.in_ok-b.field-0.op
     (of_record (case_ops c.args.self.now) c.args.p c.in_ok-a.field-0 c.in_ok-a.ensures) (of_record (case_ops c.args.self.now) c.args.x c.in_ok-b.field-0 c.in_ok-b.ensures) late))
     ∙ c.if-precedes_unmarked.false)
