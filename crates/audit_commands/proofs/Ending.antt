@@ -1,6 +1,6 @@
 -- What a refusal ends with.
-use Rattle.std.proofs.Common.{◌≡◌, ℕ, List, Option, Some, None, refl, sym, ◌∙◌, ap, inl, inr}
-use Rattle.audit_ports.specs.Shelf.{Shown, KeepsCounts}
+use Rattle.std.proofs.Common.{◌≡◌, ℕ, List, Some, ◌∙◌, ap, inl, inr}
+use Rattle.audit_ports.specs.Shelf.{Shown}
 use Rattle.audit_ports.specs.Sink.{SinkShown}
 use Rattle.audit_words.specs.declared.Task.{Task}
 use Rattle.audit_words.specs.Tasks.{task_of}

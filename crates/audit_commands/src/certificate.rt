@@ -1,6 +1,6 @@
 //! The certificate in a file.
 
-ghost use Rattle.std.specs.Prelude.{◌≡◌, IfOk, IfErr};
+ghost use Rattle.std.specs.Prelude.{IfOk, IfErr};
 ghost use Rattle.audit_commands.specs.Audit.{TakesCert};
 ghost use Rattle.audit_commands.specs.Steps.{OnlyReads};
 ghost use Rattle.audit_commands.specs.Refusals.{CertReadsAs, CertShows};

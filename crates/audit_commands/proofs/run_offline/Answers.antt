@@ -1,4 +1,4 @@
-use Rattle.std.proofs.Common.{◌≡◌, Some, refl, rules}
+use Rattle.std.proofs.Common.{◌≡◌, Some, rules}
 use Rattle.audit_words.specs.Tasks.{task_of}
 use Rattle.audit_commands.specs.Status.{number}
 use Rattle.audit_commands.proofs.Ending.{refused}
