@@ -111,6 +111,22 @@ pub struct Op {
     pub slack: u64,
 }
 
+/// One operation of a history that is written out, whose keys and values are numbers.
+#[derive(Clone, Copy, Debug, PartialEq, Eq)]
+pub struct Line {
+    /// The number of the client.
+    pub client: u32,
+    pub kind: Kind,
+    /// The number of the key: its name is `k` and this number.
+    pub key: u32,
+    /// The number of the value: it is written as `v` and this number; 0 is absent.
+    pub value: u32,
+    /// The tick at which it started.
+    pub start: u64,
+    /// The tick at which it finished.
+    pub finish: u64,
+}
+
 /// The write of "absent" that stands before all operations of a key: record 0, tick 0, value 0.
 pub const INITIAL_WRITE: Op = Op {
     rec: 0,

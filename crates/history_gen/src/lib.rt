@@ -1,0 +1,2 @@
+//! Generated histories.
+#![tactic(auto)]
