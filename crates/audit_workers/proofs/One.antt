@@ -14,7 +14,7 @@ use Rattle.stale_model.specs.Zones.{IsFourOfPair}
 use Rattle.model_laws.proofs.One.{least_deltas_are_one, printed_orders_are_one, printed_fours_are_one, printed_twos_are_one}
 use Rattle.stale_model.proofs.ClustersOne.{clusters_are_one, cluster_writes_differ}
 use Rattle.model_laws.proofs.ClustersOne.{valid_records_differ}
-use Rattle.clusters.proofs.Unique.{same_record, not_none}
+use Rattle.stale_model.proofs.LeastRecords.{same_record, not_none}
 use Rattle.audit_workers.specs.Laws.{VerdictIsOne, VerdictsAreOne}
 use Rattle.audit_workers.proofs.Truth.{verdicts_are_true}
 

@@ -29,7 +29,7 @@ use Rattle.delta_score.proofs.Pairs.{pairs_show_four}
 use Rattle.delta_score.proofs.ListingOrders.{listings_are_orders}
 use Rattle.lbt_epochs.proofs.ListedEpochs.{listings_are_answered}
 use Rattle.lbt_epochs.proofs.RefutedAnswers.{refutations_are_answered}
-use Rattle.clusters.proofs.Unique.{not_none}
+use Rattle.stale_model.proofs.LeastRecords.{not_none}
 use Rattle.audit_workers.specs.Laws.{VerdictsAreShown, VerdictsAreTrue, InfiniteIsExact}
 
 module _ (key : KeyOps) (valid : IsValidKey key) where

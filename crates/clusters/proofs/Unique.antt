@@ -1,23 +1,10 @@
 -- Sortings are determined by the operations.
-use Rattle.std.proofs.Common.{◌≡◌, ℕ, ap, arith}
-use Rattle.stale_model.specs.declared.Op.{Op}
-use Rattle.stale_model.specs.Faults.{IsDuplicate, IsUnmatched, IsEarly, IsLeastRecord, HasNone}
+use Rattle.std.proofs.Common.{ap}
+use Rattle.stale_model.specs.Faults.{IsDuplicate, IsUnmatched, IsEarly}
+use Rattle.stale_model.proofs.LeastRecords.{same_record, not_none}
 use Rattle.clusters.specs.declared.Sorted.TheVariants.{Duplicate, Unmatched, Early, Clear}
 use Rattle.clusters.specs.Laws.{SortingsAreOne}
 use Rattle.stale_model.proofs.ClustersOne.{clusters_are_one}
-
--- two least records of a fault are one
-pub same_record : (Fault : Op → Type 0) (x y : ℕ) → IsLeastRecord Fault x → IsLeastRecord Fault y → x ≡ y
-same_record Fault x y p q =
-    let (a, f, e) = p.at in
-    let (b, g, h) = q.at in
-    let l = p.least b g in
-    let m = q.least a f in
-    omega arith
-
--- a fault with a least record is there
-pub not_none : (Fault : Op → Type 0) (x : ℕ) → IsLeastRecord Fault x → HasNone Fault → ⊥
-not_none Fault x p none = let (a, f, _) = p.at in none a f
 
 pub sortings_are_one : SortingsAreOne
 sortings_are_one ops (Duplicate x) (Duplicate y) p q = ap Duplicate (same_record (IsDuplicate ops) x y p q)

@@ -4,6 +4,7 @@ pub mod Comparisons
 pub mod Sorted
 pub mod Sorting
 pub mod Lookup
+pub mod LeastRecords
 pub mod ZoneOrders
 pub mod Returned
 pub mod ClustersOne
