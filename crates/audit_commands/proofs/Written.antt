@@ -1,5 +1,5 @@
 -- The certificate of an audit is read back, and each of its verdicts is shown.
-use Rattle.std.proofs.Common.{◌≡◌, ◌⊎◌, ℕ, ◌<◌, ◌≤◌, ◌^◌, List, length, Option, Some, Ok, true, false, refl, inl, inr, arith}
+use Rattle.std.proofs.Common.{◌≡◌, ℕ, ◌<◌, ◌≤◌, ◌^◌, List, length, Option, Some, Ok, false, refl, inl, inr, arith}
 use Rattle.std.specs.Prelude.{All, Contains, IsTrue, nat_lt}
 use Rattle.std.specs.List.{list_all}
 use Rattle.std.proofs.lemmas.List.Elements.{All-contains}
@@ -12,7 +12,6 @@ use Rattle.stale_model.specs.Shown.{IsShown}
 use Rattle.stale_model.specs.Valid.{IsValidKey}
 use Rattle.stale_model.proofs.Places.{at_its_place, contains_at, something_at}
 use Rattle.history_csv.specs.Laws.{IsWithinBounds}
-use Rattle.history_csv.specs.Reading as history
 use Rattle.history_csv.proofs.FewRecords.{within_bounds}
 use Rattle.cert_text.specs.Certificates.{cert_text}
 use Rattle.cert_text.specs.Reading as certificate
@@ -20,12 +19,12 @@ use Rattle.cert_text.specs.Laws.{fits}
 use Rattle.cert_text.proofs.ReadsBack.{reads_back}
 use Rattle.cert_text.proofs.ShownChains.{all_pass}
 use Rattle.cert_text.proofs.ShownFits.{shown_fit}
-use Rattle.audit_ports.specs.Shelf.{Files, file_at}
+use Rattle.audit_ports.specs.Shelf.{file_at}
 use Rattle.audit_words.specs.declared.Task.TheVariants.{Check}
 use Rattle.audit_commands.specs.declared.status.Status.{Status}
 use Rattle.audit_commands.specs.declared.status.Status.TheVariants as status
 use Rattle.audit_commands.specs.Audit.{history_limit, cert_limit}
-use Rattle.audit_commands.specs.Complete.{Asks, VerdictsAsk, history_in, input_in, verdicts_in_bytes}
+use Rattle.audit_commands.specs.Complete.{VerdictsAsk, history_in, input_in, verdicts_in_bytes}
 use Rattle.audit_commands.specs.Laws.{WrittenCertificatesAreGood}
 use Rattle.audit_commands.proofs.Chains.{shown_have_chains}
 
