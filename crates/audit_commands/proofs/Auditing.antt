@@ -1,23 +1,19 @@
 -- How an audit ends after its history was taken and judged.
-use Rattle.std.proofs.Common.{◌≡◌, ℕ, ◌≤◌, List, Option, Some, None, Ok, Err, Result, refl, sym, ◌∙◌, ap, inl, inr, subst, arith}
-use Rattle.std.specs.Prelude.{IfErr, OnOk}
+use Rattle.std.proofs.Common.{◌≡◌, ℕ, ◌≤◌, List, Option, None, Ok, Err, Result, sym, ◌∙◌, ap, inl, inr, subst, arith}
 use Rattle.stale_model.specs.declared.History.{History}
 use Rattle.stale_model.specs.declared.Verdict.{Verdict}
 use Rattle.cert_text.specs.Certificates.{cert_text}
 use Rattle.staleness_report.specs.Report.{report_text}
 use Rattle.audit_ports.specs.Shelf.{Shown, KeepsCounts}
 use Rattle.audit_ports.specs.Sink.{SinkShown}
-use Rattle.audit_words.specs.declared.Task.{Task}
 use Rattle.audit_words.specs.declared.Task.TheVariants.{Audit}
-use Rattle.audit_commands.specs.declared.status.Status.{Status}
-use Rattle.audit_commands.specs.declared.status.Status.TheVariants as status
 use Rattle.audit_commands.specs.declared.refusal.Refusal.{Refusal}
 use Rattle.audit_commands.specs.declared.refusal.Refusal.TheVariants as refusal
 use Rattle.audit_commands.specs.Audit.{TakesHistory, AreVerdicts}
-use Rattle.audit_commands.specs.Output.{WritesWhole, WritesPart, WritesNamed, WritesNamedPart}
-use Rattle.audit_commands.specs.Ends.{KeepsShelf, AuditDone}
-use Rattle.audit_commands.specs.Steps.{OnlyReads, Prints}
-use Rattle.audit_commands.specs.Refusals.{WritesAudit, Certifies, HistoryShows, IsRefused, TaskEnds}
+use Rattle.audit_commands.specs.Output.{WritesWhole}
+use Rattle.audit_commands.specs.Ends.{KeepsShelf}
+use Rattle.audit_commands.specs.Steps.{OnlyReads}
+use Rattle.audit_commands.specs.Refusals.{WritesAudit, HistoryShows, IsRefused, TaskEnds}
 use Rattle.audit_commands.proofs.Keeping.{keeps_same, keeps_reading, keeps_written, keeps_part, keeps_after}
 use Rattle.audit_commands.proofs.Refusing.{history_shows, refused_before}
 

@@ -1,6 +1,6 @@
 -- Verdicts that are shown have chains, so that they have a text.
-use Rattle.std.proofs.Common.{◌≡◌, ℕ, List, length, true, arith}
-use Rattle.std.specs.Prelude.{IsTrue, Contains}
+use Rattle.std.proofs.Common.{List, arith}
+use Rattle.std.specs.Prelude.{IsTrue}
 use Rattle.std.specs.List.{list_all}
 use Rattle.stale_model.specs.declared.KeyOps.{KeyOps}
 use Rattle.stale_model.specs.declared.Verdict.{Verdict}

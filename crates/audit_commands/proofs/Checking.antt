@@ -1,11 +1,10 @@
 -- How a check ends after its inputs were taken.
-use Rattle.std.proofs.Common.{◌≡◌, ℕ, ◌≤◌, List, Option, Some, None, Ok, Err, Result, refl, sym, ◌∙◌, ap, inl, inr, subst, arith}
+use Rattle.std.proofs.Common.{◌≡◌, ℕ, List, None, Ok, subst, arith}
 use Rattle.std.proofs.lemmas.Option.{slice_get_within, get_or_from_slice_get}
 use Rattle.std.specs.Prelude.{All}
 use Rattle.stale_model.specs.declared.KeyOps.{KeyOps}
 use Rattle.stale_model.specs.declared.History.{History}
 use Rattle.stale_model.specs.declared.Verdict.{Verdict}
-use Rattle.stale_model.specs.Operations.{operations}
 use Rattle.stale_model.specs.Orders.{StandsAt}
 use Rattle.stale_model.specs.Valid.{IsValidKey, IsValidHistory}
 use Rattle.stale_model.specs.Truth.{EachKeyHas, IsTrueOf}
@@ -13,22 +12,16 @@ use Rattle.stale_model.specs.Shown.{IsShown}
 use Rattle.model_laws.proofs.ShownTrue.{shown_verdicts_are_true}
 use Rattle.cert_checker.specs.declared.Checked.{Checked}
 use Rattle.cert_checker.specs.declared.Checked.TheVariants as checked
-use Rattle.cert_checker.specs.KeyFaults.{FindsAll}
 use Rattle.cert_checker.proofs.ExactKeys.{certificates_are_found_good}
-use Rattle.audit_ports.specs.Shelf.{Shown, KeepsCounts}
+use Rattle.audit_ports.specs.Shelf.{Shown}
 use Rattle.audit_ports.specs.Sink.{SinkShown}
-use Rattle.audit_words.specs.declared.Task.{Task}
 use Rattle.audit_words.specs.declared.Task.TheVariants.{Check}
 use Rattle.audit_commands.specs.declared.status.Status.{Status}
-use Rattle.audit_commands.specs.declared.status.Status.TheVariants as status
-use Rattle.audit_commands.specs.declared.refusal.Refusal.{Refusal}
-use Rattle.audit_commands.specs.declared.refusal.Refusal.TheVariants as refusal
 use Rattle.audit_commands.specs.Lines.{check_line}
-use Rattle.audit_commands.specs.Output.{WritesWhole, WritesPart}
+use Rattle.audit_commands.specs.Output.{WritesWhole}
 use Rattle.audit_commands.specs.Steps.{OnlyReads, FindsBoth, Performs, status_of_check}
-use Rattle.audit_commands.specs.Refusals.{Shows, TaskEnds}
+use Rattle.audit_commands.specs.Refusals.{TaskEnds}
 use Rattle.audit_commands.proofs.Keeping.{keeps_reading}
-use Rattle.audit_commands.proofs.Refusing.{refused_before, both_keep_counts}
 
 valid_at : (keys : List KeyOps) (i : ℕ) (key : KeyOps) → All IsValidKey keys → StandsAt keys i key → IsValidKey key
 valid_at keys i key valid at = subst IsValidKey (get_or_from_slice_get keys i key key at) (valid i key (slice_get_within keys i key at))

@@ -1,16 +1,12 @@
 -- That a status is the one which the contents of the named files ask for, where files are told and nothing fails.
-use Rattle.std.proofs.Common.{◌≡◌, ℕ, ◌<◌, ◌≤◌, true, false, List, Option, Some, None, Result, Ok, Err, length, refl, sym, ◌∙◌, ap, inl, inr, subst, arith}
+use Rattle.std.proofs.Common.{◌≡◌, ℕ, ◌<◌, true, false, List, Option, Some, None, Ok, Err, length, refl, sym, ◌∙◌, ap, inl, inr, subst, arith}
 use Rattle.std.specs.Prelude.{nat_lt, IfSome, IsSomeAnd, ◌⊎◌}
 use Rattle.stale_model.specs.declared.History.{History}
 use Rattle.stale_model.specs.declared.Verdict.{Verdict}
-use Rattle.stale_model.specs.Truth.{EachKeyHas}
-use Rattle.stale_model.specs.Shown.{IsShown}
-use Rattle.history_csv.specs.declared.HistoryFault.{HistoryFault}
 use Rattle.history_csv.specs.Reading as history
-use Rattle.cert_text.specs.declared.CertFault.{CertFault}
 use Rattle.cert_text.specs.Certificates.{cert_text}
 use Rattle.cert_text.specs.Reading as certificate
-use Rattle.audit_ports.specs.Shelf.{Shown, Files, Rose, KeepsCounts, file_at}
+use Rattle.audit_ports.specs.Shelf.{Shown, Files, Rose, file_at}
 use Rattle.audit_ports.specs.Sink.{SinkShown}
 use Rattle.audit_words.specs.declared.Task.{Task}
 use Rattle.audit_words.specs.declared.Task.TheVariants.{Audit, Check}
@@ -21,12 +17,12 @@ use Rattle.audit_commands.specs.declared.status.Status.{Status}
 use Rattle.audit_commands.specs.declared.status.Status.TheVariants as status
 use Rattle.audit_commands.specs.Status.{number}
 use Rattle.audit_commands.specs.Input.{TakesInput, IsTooLong}
-use Rattle.audit_commands.specs.Audit.{history_limit, cert_limit, TakesHistory, IsFaultOf, TakesCert, IsCertFaultOf, TakesBoth, Input, IsInput, IsCertInput, history_file, history_input}
+use Rattle.audit_commands.specs.Audit.{history_limit, cert_limit, TakesHistory, TakesCert, TakesBoth, Input, IsInput, history_file}
 use Rattle.audit_commands.specs.Output.{WritesNamedPart}
-use Rattle.audit_commands.specs.Ends.{outside, AuditUnwritten, IsUnwritten}
+use Rattle.audit_commands.specs.Ends.{outside, IsUnwritten}
 use Rattle.audit_commands.specs.Steps.{Performs}
 use Rattle.audit_commands.specs.Refusals.{IsRefused, Answers}
-use Rattle.audit_commands.specs.Complete.{NothingFailed, input_in, history_in, history_in_bytes, history_or_status, verdicts_in_bytes, verdicts_or_status, VerdictsAsk, Asks, WordsAsk, IsComplete}
+use Rattle.audit_commands.specs.Complete.{NothingFailed, input_in, history_in, verdicts_in_bytes, VerdictsAsk, Asks, WordsAsk, IsComplete}
 
 told : (o : Option Files) (f : Files) (P : Files → Type 0) → o ≡ Some f → IfSome o P → P f
 told o f P is h = rw is at h
@@ -139,18 +135,18 @@ module _ (words : List (List ℕ)) (task : Task) (named : task_of words ≡ Some
       let reads : certificate.read_of (length x.h.keys) x.fault_is.bytes ≡ Err fault = x.fault_is.reads in
       let hist : history_in f (Check x.file x.cert) ≡ Ok x.h = history_told f (Check x.file x.cert) s x.taken x.h is x.history in
       by_asking f answer status.CertRefused says.status_is
-          (subst (λ t. Asks f t status.CertRefused) (sym x.task_is) (asks_by_cert f x.file x.cert x.h status.CertRefused hist (rw (input, reads) refl)))
+      (subst (λ t. Asks f t status.CertRefused) (sym x.task_is) (asks_by_cert f x.file x.cert x.h status.CertRefused hist (rw (input, reads) refl)))
   refused_told f is (refusal.Cert fault) answer h (inr says) fine = inr (ap number says.status_is)
   refused_told f is (refusal.Missing line) answer h says fine =
       let x = h.shows in
       by_asking f answer status.Missing says.status_is (asks_by_input f task s n is h.files x.input status.Missing x.input_is
-          (λ m told_m same before. absent_told f x.input.limit x.input.name m n told_m same x.says.misses.absent))
+      (λ m told_m same before. absent_told f x.input.limit x.input.name m n told_m same x.says.misses.absent))
   refused_told f is refusal.ReadFailed answer h says fine = absurd (fine.reads h.shows.read_faults)
   refused_told f is refusal.WriteFailed answer h says fine = absurd (unwritten_fails task h fine)
   refused_told f is (refusal.TooLong line) answer h says fine =
       let x = h.shows in
       by_asking f answer status.TooLong says.status_is (asks_by_input f task s n is h.files x.input status.TooLong x.input_is
-          (λ m told_m same before. long_told f x.input.limit x.input.name m n told_m (subst (λ b. IsTooLong x.input.limit x.input.name b n) (sym before) x.says.too_long)))
+      (λ m told_m same before. long_told f x.input.limit x.input.name m n told_m (subst (λ b. IsTooLong x.input.limit x.input.name b n) (sym before) x.says.too_long)))
   refused_told f is refusal.Memory answer h says fine = inr (ap number says.status_is)
 
   performed_told : (f : Files) → s.files ≡ Some f → (t : Task) (answer : Status) → Performs t s n o o' answer → Asks f t answer

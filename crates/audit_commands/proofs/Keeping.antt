@@ -1,6 +1,6 @@
 -- What stays as it was on a shelf.
-use Rattle.std.proofs.Common.{◌≡◌, ℕ, ◌≤◌, List, Option, Some, None, refl, sym, ◌∙◌, inl, inr, subst, arith}
-use Rattle.audit_ports.specs.Shelf.{Shown, Files, KeepsFiles, KeepsCounts, FailsWriting, WhereTold, Sets}
+use Rattle.std.proofs.Common.{◌≡◌, ℕ, List, Option, Some, None, refl, sym, ◌∙◌, inl, inr, subst, arith}
+use Rattle.audit_ports.specs.Shelf.{Shown, Files, WhereTold, Sets}
 use Rattle.audit_commands.specs.Output.{WritesFile, WritesFilePart, WritesNamed, WritesNamedPart}
 use Rattle.audit_commands.specs.Ends.{KeepsOthers, KeepsShelf}
 use Rattle.audit_commands.specs.Steps.{OnlyReads}

@@ -1,16 +1,16 @@
 -- What shows a refusal of a task, from what shows that of its input.
-use Rattle.std.proofs.Common.{◌≡◌, ◌≢◌, ℕ, List, Option, Some, None, Ok, Err, length, refl, sym, ◌∙◌, inl, inr, subst}
+use Rattle.std.proofs.Common.{◌≡◌, ℕ, List, length, refl, ◌∙◌, inl, inr, subst}
 use Rattle.stale_model.specs.declared.History.{History}
 use Rattle.stale_model.specs.declared.Verdict.{Verdict}
-use Rattle.audit_ports.specs.Shelf.{Shown, Rose, KeepsCounts, Misses, FailsReading}
+use Rattle.audit_ports.specs.Shelf.{Shown, Rose, KeepsCounts, FailsReading}
 use Rattle.audit_ports.specs.Sink.{SinkShown}
 use Rattle.audit_words.specs.declared.Task.{Task}
-use Rattle.audit_words.specs.declared.Task.TheVariants.{Audit, Check}
+use Rattle.audit_words.specs.declared.Task.TheVariants.{Check}
 use Rattle.audit_commands.specs.declared.refusal.Refusal.{Refusal}
 use Rattle.audit_commands.specs.declared.refusal.Refusal.TheVariants as refusal
-use Rattle.audit_commands.specs.Audit.{history_limit, cert_limit, TakesHistory, TakesBoth, IsInput, history_file, history_input}
+use Rattle.audit_commands.specs.Audit.{cert_limit, TakesHistory, TakesBoth, history_file, history_input}
 use Rattle.audit_commands.proofs.WritingFiles.{counts_kept}
-use Rattle.audit_commands.specs.Refusals.{InputShows, HistoryShows, CertShows, Shows, RefusedBefore, IsRefused}
+use Rattle.audit_commands.specs.Refusals.{HistoryShows, CertShows, Shows, IsRefused}
 
 -- a refusal of the history is one of the task
 pub history_shows : (task : Task) (s m : Shown) (r : Refusal) → HistoryShows (history_file task) s m r → Shows task s m r

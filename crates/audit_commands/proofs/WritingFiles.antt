@@ -1,5 +1,5 @@
 -- What the three calls that write a file leave.
-use Rattle.std.proofs.Common.{◌≡◌, ℕ, List, [], ◌++◌, Option, Some, None, Ok, Err, Result, length, take, refl, sym, ◌∙◌, ap, inl, inr, subst}
+use Rattle.std.proofs.Common.{◌≡◌, ℕ, List, [], ◌++◌, Option, Some, None, Ok, Err, Result, length, refl, sym, ◌∙◌, ap, inr, subst}
 use Rattle.std.proofs.Math.Seq.{take-length}
 use Rattle.std.specs.Prelude.{IfSome}
 use Rattle.audit_ports.specs.Shelf.{Shown, Files, Rose, KeepsCounts, FailsWriting, WhereTold, Sets, Extends, IsCreated, Finishes}

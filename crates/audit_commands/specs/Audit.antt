@@ -1,5 +1,5 @@
 -- What the inputs of a command are, and what an audit of a history says.
-use Rattle.std.specs.Prelude.{◌≡◌, ◌⊎◌, ℕ, List, length, Option, Some, None, Ok, Err}
+use Rattle.std.specs.Prelude.{◌≡◌, ◌⊎◌, ℕ, List, length, Option, None, Ok, Err}
 use Rattle.stale_model.specs.declared.History.{History}
 use Rattle.stale_model.specs.declared.Verdict.{Verdict}
 use Rattle.stale_model.specs.PrintedVerdicts.{ArePrintedVerdicts}

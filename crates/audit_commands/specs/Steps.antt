@@ -1,5 +1,5 @@
 -- Definitions that serve the code alone: the steps of a command.
-use Rattle.std.specs.Prelude.{◌≡◌, ℕ, List, length, take, Option, Some, IfSome, IsSome, Result, OnOk, OnErr}
+use Rattle.std.specs.Prelude.{◌≡◌, ℕ, List, length, take, Some, IfSome, IsSome, Result, OnOk, OnErr}
 use Rattle.stale_model.specs.declared.History.{History}
 use Rattle.stale_model.specs.declared.Verdict.{Verdict}
 use Rattle.audit_ports.specs.Shelf.{Shown, KeepsFiles, KeepsCounts, file_at}
@@ -16,7 +16,7 @@ use Rattle.audit_commands.specs.declared.input.TakeFault.{TakeFault}
 use Rattle.audit_commands.specs.declared.input.TakeFault.TheVariants as taking
 use Rattle.audit_commands.specs.declared.status.Status.{Status}
 use Rattle.audit_commands.specs.declared.status.Status.TheVariants as status
-use Rattle.audit_commands.specs.Output.{WritesWhole, WritesPart, WritesFile, WritesFilePart, WritesNamed}
+use Rattle.audit_commands.specs.Output.{WritesWhole, WritesPart, WritesFile, WritesFilePart}
 use Rattle.audit_commands.specs.Audit.{TakesBoth}
 use Rattle.audit_commands.specs.Ends.{IsDone, CheckFails}
 
