@@ -7,7 +7,6 @@ use Rattle.staleness_report.specs.Report.{report_text}
 use Rattle.audit_ports.specs.Shelf.{Shown, KeepsCounts}
 use Rattle.audit_ports.specs.Sink.{SinkShown}
 use Rattle.audit_words.specs.declared.Task.TheVariants.{Audit}
-use Rattle.audit_commands.specs.declared.status.Status.TheVariants as status
 use Rattle.audit_commands.specs.declared.refusal.Refusal.{Refusal}
 use Rattle.audit_commands.specs.declared.refusal.Refusal.TheVariants as refusal
 use Rattle.audit_commands.specs.Audit.{TakesHistory, AreVerdicts}

@@ -17,8 +17,6 @@ use Rattle.audit_ports.specs.Shelf.{Shown}
 use Rattle.audit_ports.specs.Sink.{SinkShown}
 use Rattle.audit_words.specs.declared.Task.TheVariants.{Check}
 use Rattle.audit_commands.specs.declared.status.Status.{Status}
-use Rattle.audit_commands.specs.declared.status.Status.TheVariants as status
-use Rattle.audit_commands.specs.declared.refusal.Refusal.TheVariants as refusal
 use Rattle.audit_commands.specs.Lines.{check_line}
 use Rattle.audit_commands.specs.Output.{WritesWhole}
 use Rattle.audit_commands.specs.Steps.{OnlyReads, FindsBoth, Performs, status_of_check}

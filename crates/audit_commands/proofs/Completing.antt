@@ -135,18 +135,18 @@ module _ (words : List (List ℕ)) (task : Task) (named : task_of words ≡ Some
       let reads : certificate.read_of (length x.h.keys) x.fault_is.bytes ≡ Err fault = x.fault_is.reads in
       let hist : history_in f (Check x.file x.cert) ≡ Ok x.h = history_told f (Check x.file x.cert) s x.taken x.h is x.history in
       by_asking f answer status.CertRefused says.status_is
-          (subst (λ t. Asks f t status.CertRefused) (sym x.task_is) (asks_by_cert f x.file x.cert x.h status.CertRefused hist (rw (input, reads) refl)))
+      (subst (λ t. Asks f t status.CertRefused) (sym x.task_is) (asks_by_cert f x.file x.cert x.h status.CertRefused hist (rw (input, reads) refl)))
   refused_told f is (refusal.Cert fault) answer h (inr says) fine = inr (ap number says.status_is)
   refused_told f is (refusal.Missing line) answer h says fine =
       let x = h.shows in
       by_asking f answer status.Missing says.status_is (asks_by_input f task s n is h.files x.input status.Missing x.input_is
-          (λ m told_m same before. absent_told f x.input.limit x.input.name m n told_m same x.says.misses.absent))
+      (λ m told_m same before. absent_told f x.input.limit x.input.name m n told_m same x.says.misses.absent))
   refused_told f is refusal.ReadFailed answer h says fine = absurd (fine.reads h.shows.read_faults)
   refused_told f is refusal.WriteFailed answer h says fine = absurd (unwritten_fails task h fine)
   refused_told f is (refusal.TooLong line) answer h says fine =
       let x = h.shows in
       by_asking f answer status.TooLong says.status_is (asks_by_input f task s n is h.files x.input status.TooLong x.input_is
-          (λ m told_m same before. long_told f x.input.limit x.input.name m n told_m (subst (λ b. IsTooLong x.input.limit x.input.name b n) (sym before) x.says.too_long)))
+      (λ m told_m same before. long_told f x.input.limit x.input.name m n told_m (subst (λ b. IsTooLong x.input.limit x.input.name b n) (sym before) x.says.too_long)))
   refused_told f is refusal.Memory answer h says fine = inr (ap number says.status_is)
 
   performed_told : (f : Files) → s.files ≡ Some f → (t : Task) (answer : Status) → Performs t s n o o' answer → Asks f t answer

@@ -16,7 +16,10 @@ module _ (words : List (List ℕ)) (task : Task) (asked : task_of words ≡ Some
   pub refused : (r : Refusal) (answer : Status) → IsRefused task s s' o o' r → Answers r answer e e' → Ends words (outside s o e) (outside s' o' e') answer
   refused (refusal.History fault) answer h (inl (line, is, says)) =
       rw says.status_is (record {
-        task = task; asked = asked; fault = fault; fault_is = h.shows.0;
+        task = task;
+        asked = asked;
+        fault = fault;
+        fault_is = h.shows.0;
         refuses = rw is (record { files = h.files; out = h.same; says = says.says });
       })
   refused (refusal.History fault) answer h (inr says) =
@@ -24,7 +27,14 @@ module _ (words : List (List ℕ)) (task : Task) (asked : task_of words ≡ Some
   refused (refusal.Cert fault) answer h (inl (line, is, says)) =
       let f = h.shows in
       rw says.status_is (record {
-        file = f.file; cert = f.cert; asked = asked ∙ ap Some f.task_is; taken = f.taken; h = f.h; history = f.history; fault = fault; fault_is = f.fault_is;
+        file = f.file;
+        cert = f.cert;
+        asked = asked ∙ ap Some f.task_is;
+        taken = f.taken;
+        h = f.h;
+        history = f.history;
+        fault = fault;
+        fault_is = f.fault_is;
         refuses = rw is (record { files = h.files; out = h.same; says = says.says });
       })
   refused (refusal.Cert fault) answer h (inr says) =
@@ -36,7 +46,11 @@ module _ (words : List (List ℕ)) (task : Task) (asked : task_of words ≡ Some
   refused (refusal.Missing line) answer h says =
       let m = h.shows in
       rw says.status_is (record {
-        task = task; asked = asked; input = m.input; input_is = m.input_is; misses = m.says.misses;
+        task = task;
+        asked = asked;
+        input = m.input;
+        input_is = m.input_is;
+        misses = m.says.misses;
         refuses = record { files = h.files; out = h.same; says = rw m.says.line_is at says.says };
       })
   refused refusal.ReadFailed answer h says =
@@ -46,7 +60,11 @@ module _ (words : List (List ℕ)) (task : Task) (asked : task_of words ≡ Some
   refused (refusal.TooLong line) answer h says =
       let m = h.shows in
       rw says.status_is (record {
-        task = task; asked = asked; input = m.input; input_is = m.input_is; too_long = m.says.too_long;
+        task = task;
+        asked = asked;
+        input = m.input;
+        input_is = m.input_is;
+        too_long = m.says.too_long;
         refuses = record { files = h.files; out = h.same; says = rw m.says.line_is at says.says };
       })
   refused refusal.Memory answer h says =

@@ -8,3 +8,4 @@ pub mod Checking
 pub mod Ending
 pub mod Completing
 pub mod Chains
+pub mod Written

@@ -7,3 +7,4 @@ pub mod Ends
 pub mod Complete
 pub mod Steps
 pub mod Refusals
+pub mod Laws

@@ -15,3 +15,4 @@ pub mod EntryFacts
 pub mod Counts
 pub mod ValidFacts
 pub mod Definite
+pub mod FewRecords

@@ -5,3 +5,4 @@ pub mod Numbering
 pub mod Building
 pub mod Records
 pub mod Reading
+pub mod Laws

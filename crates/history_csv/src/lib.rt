@@ -11,12 +11,14 @@ ghost use Rattle.history_csv.specs.Records.{IsReading, WantsMemory, records_left
 
 mod entry;
 mod header;
+mod laws;
 mod numbering;
 mod records;
 
 use crate::entry::entry_of;
 pub use crate::header::column_name;
 use crate::header::{Columns, columns_of};
+pub use crate::laws::records_are_few;
 use crate::numbering::HistoryBuilder;
 use crate::records::{read_next, reader_of};
 use csv::{ByteRecord, Reader};

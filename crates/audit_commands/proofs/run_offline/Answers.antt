@@ -10,7 +10,7 @@ returns-in-Ok-clause-complete g c =
     let named : task_of c.args.words.now ≡ Some c.in-Ok-Some.task = search rules in
     let is : c.number-in-Ok.result ≡ number c.in-Ok.status = search rules in
     rw is (performed_complete c.args.words.now c.in-Ok-Some.task named (g.S.Shelf.shown c.args.shelf.now) (g.S.Shelf.shown c.perform.new.shelf) (g.O.Sink.shown c.args.out.now) (g.O.Sink.shown c.perform.new.out)
-        (g.E.Sink.shown c.args.err.now) (g.E.Sink.shown c.args.err.now) c.in-Ok.status c.in-Ok.ensures.done)
+    (g.E.Sink.shown c.args.err.now) (g.E.Sink.shown c.args.err.now) c.in-Ok.status c.in-Ok.ensures.done)
 
 pub returns-clause-ends : goal.returns-clause-ends
 returns-clause-ends g c =
@@ -27,4 +27,4 @@ returns-clause-complete g c =
     let named : task_of c.args.words.now ≡ Some c.in-Ok-Some.task = search rules in
     let is : c.number-in-Err-perform.result ≡ number c.refuse.result = search rules in
     rw is (refused_complete c.args.words.now c.in-Ok-Some.task named (g.S.Shelf.shown c.args.shelf.now) (g.S.Shelf.shown c.perform.new.shelf) (g.O.Sink.shown c.args.out.now) (g.O.Sink.shown c.perform.new.out)
-        (g.E.Sink.shown c.args.err.now) (g.E.Sink.shown c.refuse.new.err) c.in-Err-perform.refusal c.refuse.result c.in-Err-perform.ensures.refused c.refuse.ensures)
+    (g.E.Sink.shown c.args.err.now) (g.E.Sink.shown c.refuse.new.err) c.in-Err-perform.refusal c.refuse.result c.in-Err-perform.ensures.refused c.refuse.ensures)
