@@ -8,7 +8,7 @@ use Rattle.stale_model.specs.Refutations.{Forces}
 use Rattle.stale_model.proofs.Places.{at_its_place, same_at}
 use Rattle.cert_checker.specs.OrderFaults.{StandsTo}
 use Rattle.cert_checker.specs.declared.refutations.Case.{Case}
-use Rattle.cert_checker.specs.RefutationSteps.{case_ops, case_stuck, IsCase, IsWrittenBy, HaveMark, IsChain, IsWalked, FindsEnd}
+use Rattle.cert_checker.specs.RefutationSteps.{case_ops, case_stuck, IsCase, IsWrittenBy, HaveMark, IsChain, FindsEnd}
 use Rattle.cert_checker.proofs.Cases.{case_names, span_in, span_at}
 use Rattle.cert_checker.proofs.Marks.{IsGoodTo, entry}
 use Rattle.cert_checker.proofs.Starts.{below_or_at}

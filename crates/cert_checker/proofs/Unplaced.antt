@@ -1,5 +1,5 @@
 -- Operations that precede those of members that a chain doesn't place.
-use Rattle.std.proofs.Common.{◌≡◌, ℕ, Bool, List, length, refl, sym, ◌∙◌, ap, subst}
+use Rattle.std.proofs.Common.{◌≡◌, ℕ, List, length, refl, sym, ◌∙◌, ap, subst}
 use Rattle.stale_model.specs.declared.Op.{Op}
 use Rattle.stale_model.specs.Operations.{IsRead, IsWrite}
 use Rattle.stale_model.specs.Faults.{IsWriteOf}
