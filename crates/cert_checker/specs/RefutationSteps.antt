@@ -90,10 +90,11 @@ abbrev pub FindsMembers : KeyOps → List ℕ → Members → Type 0
 FindsMembers key stuck (Stranger rec) = IsFirstWrong (IsStranger (operations key) stuck) stuck rec
 FindsMembers key stuck (Marks marks) = AreMembers (operations key) stuck marks.items × (length marks.items ≡ length key.values + 1)
 
--- the operations of a case, and its members
+-- the operations of a case
 abbrev pub case_ops : Case → List Op
 case_ops case = operations case.key.now
 
+-- the members of a case
 abbrev pub case_stuck : Case → List ℕ
 case_stuck case = case.refutation.now.stuck
 
@@ -155,13 +156,15 @@ abbrev pub FindsUnplaced : Case → ℕ → ℕ → Option Op → List ℕ → �
 FindsUnplaced case p x None chain c = IsUnplacedAfter case chain c p x → ⊥
 FindsUnplaced case p x (Some b) chain c = (late : IsUnplacedAfter case chain c p x) × (late.b ≡ b)
 
--- whether the one or the other end of the chain holds
+-- whether the hard end p, u of the chain holds
 abbrev pub TellsHard : Case → ℕ → ℕ → Bool → List ℕ → ℕ → Type 0
 TellsHard case p u answer chain c = IsTrue answer ↔ HardHolds (case_ops case) case.d (case_stuck case) chain c p u
 
+-- whether the soft end p, q, q2 of the chain holds
 abbrev pub TellsSoft : Case → ℕ → ℕ → ℕ → Bool → List ℕ → ℕ → Type 0
 TellsSoft case p q q2 answer chain c = IsTrue answer ↔ SoftHolds (case_ops case) case.d (case_stuck case) chain c p q q2
 
+-- whether the end of the chain holds
 abbrev pub TellsEnd : Case → End → Bool → List ℕ → ℕ → Type 0
 TellsEnd case end answer chain c = IsTrue answer ↔ EndHolds (case_ops case) case.d (case_stuck case) chain c end
 

@@ -1,4 +1,4 @@
-use Rattle.std.proofs.Common.{rules, ◌<◌, ◌+◌, ℕ, List, length, get_or, refl, sym, ◌∙◌, subst, arith, true≢false}
+use Rattle.std.proofs.Common.{rules, ◌<◌, ℕ, List, length, get_or, refl, sym, ◌∙◌, subst, arith, true≢false}
 use Rattle.std.specs.Prelude.{Contains}
 use Rattle.std.proofs.lemmas.List.{length-set}
 use Rattle.std.proofs.lemmas.Option.{slice_get-get_or, slice_get_within, get_or_from_slice_get}
