@@ -1,0 +1,2 @@
+//! Lines that another program made.
+use super::*;
