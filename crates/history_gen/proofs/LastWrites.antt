@@ -46,5 +46,7 @@ none_written = record { items = refl; positive = λ k d lt. absurd (omega arith)
 -- before the first line no key has a write
 pub no_writes : (keys : ℕ) → AreLastWrites [] (replicate keys (0 ∷ 0 ∷ 0 ∷ []))
 no_writes keys key lt =
-    let there : key < keys = omega (arith, length-replicate keys (0 ∷ 0 ∷ 0 ∷ [])) in
-    subst (AreLastThree []) (sym (get_or-replicate keys key (0 ∷ 0 ∷ 0 ∷ []) [] there)) none_written
+    let none : List ℕ = 0 ∷ 0 ∷ 0 ∷ [] in
+    let size : length (replicate keys none) ≡ keys = length-replicate keys none in
+    let there : key < keys = omega arith in
+    subst (AreLastThree []) (sym (get_or-replicate keys key none [] there)) none_written
