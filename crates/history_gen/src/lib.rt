@@ -1,7 +1,7 @@
 //! Generated histories: the same lines for the same seed, everywhere.
 #![tactic(auto)]
 
-ghost use Rattle.std.specs.Prelude.{◌≡◌, ℕ, ◌+◌, ◌^◌, ◌<◌, ◌≤◌, List, [], ◌∷◌, ◌++◌, length, IfOk, OnOk};
+ghost use Rattle.std.specs.Prelude.{◌≡◌, ℕ, ◌+◌, ◌-◌, ◌<◌, ◌≤◌, List, [], ◌∷◌, ◌++◌, length, min, IfOk, OnOk};
 ghost use Rattle.rand_pcg.specs.Lcg.{advance};
 ghost use Rattle.rand_pcg.specs.Pcg.{multiplier_64};
 ghost use Rattle.history_gen.specs.Generated.{word_after, age_of, value_of_age, line_with, line_on, next_line, lines_of};
@@ -64,9 +64,7 @@ impl Generator {
     fn add_line(&mut self, i: u32, keys: u32) -> Result<(), Memory>
         requires keys { 1 ≤ keys }
         requires slots { length self.old.last_writes.items ≡ keys }
-        ensures {
-            (seed n : ℕ) → i ≡ n + 1 → HasMade seed keys n self.old → OnOk result (HasMade seed keys i self.new)
-        }
+        ensures { (seed n : ℕ) → i ≡ n + 1 → HasMade seed keys n self.old → OnOk result (HasMade seed keys i self.new) }
     {
         let key = self.words.next_word() % keys;
         let kind_word = self.words.next_word();
@@ -82,15 +80,14 @@ impl Generator {
 fn line_on(i: u32, key: u32, last: [u32; 3], kind_word: u32, age_word: u32) -> Line
     ensures key { result.key ≡ key }
     ensures written { result.kind ≡ Kind.Write → result.value ≡ i }
-    ensures line {
-        (values : List ℕ) → AreLastThree values last
-            → result ≡ line_on i key values kind_word age_word
-    }
+    ensures line { (values : List ℕ) → AreLastThree values last
+        → result ≡ line_on i key values kind_word age_word }
 {
     if last[0] == 0 || kind_word % 2 == 0 {
         line_with(i, key, Kind::Write, i)
     } else {
-        line_with(i, key, Kind::Read, value_of_age(age_of(key, age_word), last))
+        let age = age_of(key, age_word);
+        line_with(i, key, Kind::Read, value_of_age(age, last))
     }
 }
 
@@ -122,12 +119,20 @@ fn value_of_age(age: u32, last: [u32; 3]) -> u32
     requires { age < 3 }
     ensures { (values : List ℕ) → AreLastThree values last → result ≡ value_of_age age values }
 {
-    if age == 2 && last[2] != 0 {
-        last[2]
-    } else if age >= 1 && last[1] != 0 {
-        last[1]
+    last[age.min(oldest(last)) as usize]
+}
+
+// The place of the oldest write among the last three.
+fn oldest(last: [u32; 3]) -> u32
+    ensures within { result < 3 }
+    ensures place { (values : List ℕ) → AreLastThree values last → result ≡ min 2 (length values - 1) }
+{
+    if last[1] == 0 {
+        0
+    } else if last[2] == 0 {
+        1
     } else {
-        last[0]
+        2
     }
 }
 
@@ -135,11 +140,9 @@ fn value_of_age(age: u32, last: [u32; 3]) -> u32
 fn note(last_writes: &mut Vec<[u32; 3]>, line: &Line)
     requires { line.now.key < length last_writes.old.items }
     ensures size { length last_writes.new.items ≡ length last_writes.old.items }
-    ensures noted {
-        (before : List Line) → (line.now.kind ≡ Kind.Write → 0 < line.now.value)
-            → AreLastWrites before last_writes.old.items
-            → AreLastWrites (before ++ line.now ∷ []) last_writes.new.items
-    }
+    ensures noted { (before : List Line) → (line.now.kind ≡ Kind.Write → 0 < line.now.value)
+        → AreLastWrites before last_writes.old.items
+        → AreLastWrites (before ++ line.now ∷ []) last_writes.new.items }
 {
     let key = line.key as usize;
     match line.kind {

@@ -3,7 +3,6 @@ use Rattle.std.specs.Prelude.{is_ok}
 use Rattle.std.proofs.lemmas.List.{get_or_default}
 use Rattle.stale_model.specs.declared.Kind.TheVariants.{Write}
 use Rattle.stale_model.specs.declared.Line.{Line}
-use Rattle.history_gen.specs.declared.Generator.{Generator}
 use Rattle.history_gen.specs.Generated.{generator_of, word_after, values_written, next_line, lines_of}
 use Rattle.history_gen.specs.LastWrites.{AreLastThree, AreLastWrites}
 use Rattle.history_gen.specs.Generator.{HasMade}
