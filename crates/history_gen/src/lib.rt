@@ -1,10 +1,8 @@
 //! Generated histories: the same lines for the same seed, everywhere.
 #![tactic(auto)]
 
-ghost use Rattle.std.specs.Prelude.{◌≡◌, ℕ, ◌+◌, ◌-◌, ◌<◌, ◌≤◌, List, [], ◌∷◌, ◌++◌, length, min, IfOk, OnOk};
-ghost use Rattle.rand_pcg.specs.Lcg.{advance};
-ghost use Rattle.rand_pcg.specs.Pcg.{multiplier_64};
-ghost use Rattle.history_gen.specs.Generated.{word_after, age_of, value_of_age, line_with, line_on, next_line, lines_of};
+ghost use Rattle.std.specs.Prelude.{◌≡◌, ℕ, ◌+◌, ◌-◌, ◌<◌, ◌≤◌, [], ◌∷◌, ◌++◌, length, min, IfOk, OnOk};
+ghost use Rattle.history_gen.specs.Generated.{age_of, value_of_age, line_with, line_on, lines_of};
 ghost use Rattle.history_gen.specs.LastWrites.{AreLastThree, AreLastWrites};
 
 use rand_core::SeedableRng;
@@ -64,7 +62,8 @@ impl Generator {
     fn add_line(&mut self, i: u32, keys: u32) -> Result<(), Memory>
         requires keys { 1 ≤ keys }
         requires slots { length self.old.last_writes.items ≡ keys }
-        ensures { (seed n : ℕ) → i ≡ n + 1 → HasMade seed keys n self.old → OnOk result (HasMade seed keys i self.new) }
+        ensures { (seed n : ℕ) → i ≡ n + 1 → HasMade seed keys n self.old
+            → OnOk result (HasMade seed keys i self.new) }
     {
         let key = self.words.next_word() % keys;
         let kind_word = self.words.next_word();
@@ -125,7 +124,8 @@ fn value_of_age(age: u32, last: [u32; 3]) -> u32
 // The place of the oldest write among the last three.
 fn oldest(last: [u32; 3]) -> u32
     ensures within { result < 3 }
-    ensures place { (values : List ℕ) → AreLastThree values last → result ≡ min 2 (length values - 1) }
+    ensures place { (values : List ℕ) → AreLastThree values last
+        → result ≡ min 2 (length values - 1) }
 {
     if last[1] == 0 {
         0
