@@ -16,3 +16,4 @@ pub mod Counts
 pub mod ValidFacts
 pub mod Definite
 pub mod FewRecords
+pub mod WrittenRows

@@ -1,4 +1,4 @@
-//! Reads histories: CSV files with one operation a record.
+//! Reads and writes histories: CSV files with one operation a record.
 #![tactic(auto)]
 
 ghost use Rattle.std.specs.Prelude.{◌≡◌, ◌≢◌, ℕ, ◌+◌, ◌⊎◌, [], length, sum_by, IfOk, IfErr, OnOk};
@@ -14,6 +14,7 @@ mod header;
 mod laws;
 mod numbering;
 mod records;
+mod writing;
 
 use crate::entry::entry_of;
 pub use crate::header::column_name;
@@ -21,6 +22,7 @@ use crate::header::{Columns, columns_of};
 pub use crate::laws::records_are_few;
 use crate::numbering::HistoryBuilder;
 use crate::records::{read_next, reader_of};
+pub use crate::writing::write_history;
 use csv::{ByteRecord, Reader};
 use stale_model::{History, Memory};
 use std::alloc::Global;

@@ -1,5 +1,6 @@
-//! What is read of whole files, of the sizes that no contract speaks of.
+//! What is read of whole files, of the sizes that no contract speaks of, and what is written.
 use super::*;
+use stale_model::{Kind, Line};
 use std::test::Fail;
 
 #[test]
@@ -33,5 +34,35 @@ fn reads_more_values_and_keys_than_16_bits_count(rt: HostRuntime) -> Result<(), 
     assert_eq!(rt; keys.len(), 70_001);
     assert_eq!(rt; keys[0].values.as_slice().len(), 70_000);
     assert_eq!(rt; keys[0].ops.as_slice().len(), 70_000);
+    Ok(())
+}
+
+#[test]
+fn writes_a_history(rt: HostRuntime) -> Result<(), Fail> {
+    let lines = [
+        Line {
+            client: 4_294_967_295,
+            kind: Kind::Write,
+            key: 2,
+            value: 1,
+            start: 10,
+            finish: 4_611_686_018_427_387_903,
+        },
+        Line {
+            client: 0,
+            kind: Kind::Read,
+            key: 0,
+            value: 0,
+            start: 80,
+            finish: 97,
+        },
+    ];
+    let text = write_history(rt.alloc(), &lines)?;
+    let expected =
+        b"client,op,key,value,start,finish\n4294967295,w,k2,v1,10,4611686018427387903\n0,r,k0,,80,97\n";
+    assert_eq!(rt; text.as_slice(), expected.as_slice());
+    let history = read_history(rt.alloc(), text.as_slice())?;
+    assert_eq!(rt; history.records, 2);
+    assert_eq!(rt; history.keys.as_slice()[0].ops.as_slice()[0].value, 1);
     Ok(())
 }

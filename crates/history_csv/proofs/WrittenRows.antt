@@ -1,0 +1,71 @@
+-- The fields of a line need no quotes.
+use Rattle.std.proofs.Common.{◌≡◌, ℕ, zero, suc, ◌+◌, ◌<◌, ◌%◌, ◌/◌, ◌++◌, Bool, true, false, List, [], ◌∷◌, refl, ◌∙◌, sym, ap, inl, inr, arith, append_assoc, append-nil, nat_lt, codes, lit<}
+use Rattle.std.specs.Prelude.{◌==◌}
+use Rattle.std.specs.Fmt.{decimal, digit_glyph, digits, digits_onto}
+use Rattle.std.specs.List.{join_with_byte, list_any}
+use Rattle.std.proofs.lemmas.Bool.{cases_Bool, lt-ltb, ne_eqb}
+use Rattle.csv.specs.Writing.{default_writer, fields_text, is_blank, needs_byte, row_text}
+use Rattle.stale_model.specs.declared.Kind.{Kind}
+use Rattle.stale_model.specs.declared.Kind.TheVariants.{Read, Write}
+use Rattle.stale_model.specs.declared.Line.{Line}
+use Rattle.history_csv.specs.Written.{header_text, key_text, line_fields, line_text, op_text, value_text}
+
+-- a text with no byte that calls for quotes
+abbrev IsPlain : List ℕ → Type 0
+IsPlain text = list_any (needs_byte default_writer) text ≡ false
+
+digit-plain : (d : ℕ) → needs_byte default_writer (48 + d) ≡ false
+digit-plain d =
+    let comma : ((48 + d) == 44) ≡ false = ne_eqb (48 + d) 44 (λ e. omega (arith, e)) in
+    let quote : ((48 + d) == 34) ≡ false = ne_eqb (48 + d) 34 (λ e. omega (arith, e)) in
+    let return : ((48 + d) == 13) ≡ false = ne_eqb (48 + d) 13 (λ e. omega (arith, e)) in
+    let feed : ((48 + d) == 10) ≡ false = ne_eqb (48 + d) 10 (λ e. omega (arith, e)) in
+    rw (comma, quote, return, feed) refl
+
+digits-plain : (k n : ℕ) (acc : List ℕ) → IsPlain acc → IsPlain (digits_onto k 10 false n acc)
+digits-plain zero n acc plain = plain
+digits-plain (suc k) n acc plain =
+    let small : nat_lt (n % 10) 10 ≡ true = lt-ltb (n % 10) 10 (omega arith) in
+    let one : IsPlain (digit_glyph false (n % 10) ∷ acc) = rw (small, digit-plain (n % 10)) plain in
+    elim (cases_Bool (n / 10 == 0)) [
+      | inl last ↦ rw last one
+      | inr more ↦ rw more (digits-plain k (n / 10) (digit_glyph false (n % 10) ∷ acc) one)
+    ]
+
+decimal-plain : (n : ℕ) → IsPlain (decimal n)
+unfolding digits
+decimal-plain n = digits-plain 64 n [] refl
+
+op-plain : (kind : Kind) → IsPlain (op_text kind)
+op-plain Read = refl
+op-plain Write = refl
+
+key-plain : (number : ℕ) → IsPlain (key_text number)
+key-plain number = decimal-plain number
+
+value-plain : (number : ℕ) → IsPlain (value_text number)
+value-plain number = elim (cases_Bool (number == 0)) [
+  | inl none ↦ rw none refl
+  | inr some ↦ rw some (decimal-plain number)
+]
+
+-- the record of six plain fields is these with commas between them
+six_plain : (a b c d e f : List ℕ) → IsPlain a → IsPlain b → IsPlain c → IsPlain d → IsPlain e → IsPlain f
+    → row_text default_writer (a ∷ b ∷ c ∷ d ∷ e ∷ f ∷ []) ≡ join_with_byte 44 (a ∷ b ∷ c ∷ d ∷ e ∷ f ∷ []) ++ codes "\n"
+unfolding fields_text is_blank
+six_plain a b c d e f pa pb pc pd pe pf = rw (pa, pb, pc, pd, pe, pf, append-nil f) refl
+
+-- the record of a line is its text
+pub row_text-line : (line : Line) → row_text default_writer (line_fields line) ≡ line_text line
+row_text-line line =
+    six_plain (decimal line.client) (op_text line.kind) (key_text line.key) (value_text line.value) (decimal line.start) (decimal line.finish) (decimal-plain line.client) (op-plain line.kind)
+    (key-plain line.key) (value-plain line.value) (decimal-plain line.start) (decimal-plain line.finish)
+
+-- the names of the columns
+abbrev pub header_names : List (List ℕ)
+header_names = codes "client" ∷ codes "op" ∷ codes "key" ∷ codes "value" ∷ codes "start" ∷ codes "finish" ∷ []
+
+-- the record of these is the header
+pub row_text-header : row_text default_writer header_names ≡ header_text
+unfolding fields_text is_blank
+row_text-header = refl
