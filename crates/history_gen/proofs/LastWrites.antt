@@ -19,11 +19,11 @@ get_or-take_three _ (suc (suc (suc j))) lt = absurd (omega arith)
 pub get_or-last : (values last : List ℕ) (j : ℕ) → AreLastThree values last → j < 3 → get_or last j 0 ≡ get_or values j 0
 get_or-last values last j are lt = subst (λ (l : List ℕ). get_or l j 0 ≡ get_or values j 0) (sym are.items) (get_or-take_three values j lt)
 
--- where there is a 0, no more values are
+-- at a 0 the values have ended
 pub length_within : (values last : List ℕ) (j : ℕ) → AreLastThree values last → j < 3 → get_or last j 0 ≡ 0 → length values ≤ j
 length_within values last j are lt none = grind (arith, get_or-last values last j are lt, are.positive j 0)
 
--- where there is none, a value is there
+-- where there is no 0, a value stands
 pub length_above : (values last : List ℕ) (j : ℕ) → AreLastThree values last → j < 3 → (get_or last j 0 ≡ 0 → ⊥) → j < length values
 length_above values last j are lt some = grind (arith, get_or-last values last j are lt, get_or_past values j 0)
 

@@ -13,8 +13,8 @@ use std::alloc::Global;
 
 /// The history of `ops` operations on `keys` keys that this seed gives, in the order of their starts.
 ///
-/// The words are those of the generator `Pcg32` (O'Neill, 2014), made by `seed_from_u64` of the
-/// seed. Operation number i, counted from 1, takes three of them: a, b and c.
+/// The words, of 32 bits, are those of the generator `Pcg32` (O'Neill, 2014), made by
+/// `seed_from_u64` of the seed. Operation number i, counted from 1, takes the next three: a, b, c.
 ///
 /// - Its key is a mod `keys`, its client is i mod 8, it starts at tick 10 × i and finishes at tick
 ///   10 × i + 1 + (7 × i mod 40).
@@ -23,7 +23,7 @@ use std::alloc::Global;
 ///   that many writes so far, it is the number of these writes less one. The read returns the value
 ///   of the write of its key that is as many before the newest as the age says.
 ///
-/// There is no result only where memory runs out.
+/// The error is `Memory`, where memory runs out.
 pub fn gen_history(alloc: Global, seed: u64, ops: u32, keys: u32) -> Result<List<Line>, Memory>
     requires { 1 ≤ keys }
     ensures { IfOk result (λ lines. lines ≡ lines_of seed keys ops) }
