@@ -1,6 +1,8 @@
 //! What a row of a table is, and how it is run.
 
-ghost use Rattle.std.specs.Prelude.{◌<◌};
+ghost use Rattle.std.specs.Prelude.{◌≡◌, ◌<◌, None, IfOk};
+ghost use Rattle.audit_ports.specs.MemoryFiles.{HaveDistinctNames};
+ghost use Rattle.audit_ports.specs.MemoryShown.{memory_shown};
 
 use audit_commands::run_offline;
 use audit_ports::{Failed, Gate, MemoryShelf, MemorySink, OpenFault, OpenGate, Shelf};
@@ -10,15 +12,17 @@ use std::alloc::{AllocError, Global};
 use std::process::Abort;
 use std::thread::Threads;
 
-/// A call of the program: its words, the one file that there is, the calls of the outside that fail, and what comes
-/// of it.
+/// A call of the program: its words, the files `h` and `c`, the calls of the outside that fail, and what comes of it.
+/// The file `h` is there, and never changes.
 #[derive(Clone, Copy)]
 pub struct Row<'a> {
     /// What the row shows.
     pub shows: &'a str,
     pub words: &'a [&'a str],
-    /// The name and the bytes of the file.
-    pub file: (&'a str, &'a [u8]),
+    /// The bytes of the file `h`.
+    pub history: &'a [u8],
+    /// The bytes of the file `c`, where there is one.
+    pub cert: Option<&'a [u8]>,
     /// The numbers of the calls that fail, of the shelf, of the output and of the error output.
     pub shelf_fails: &'a [u32],
     pub out_fails: &'a [u32],
@@ -26,6 +30,8 @@ pub struct Row<'a> {
     pub status: u8,
     pub out: &'a str,
     pub err: &'a str,
+    /// The name of a file, and its bytes afterwards, where there is one then.
+    pub after: (&'a str, Option<&'a [u8]>),
 }
 
 impl<'a> Row<'a> {
@@ -34,13 +40,15 @@ impl<'a> Row<'a> {
         Row {
             shows,
             words: &["audit", "h"],
-            file: ("h", history),
+            history,
+            cert: None,
             shelf_fails: &[],
             out_fails: &[],
             err_fails: &[],
             status: 0,
             out,
             err: "",
+            after: ("c", None),
         }
     }
 
@@ -50,6 +58,38 @@ impl<'a> Row<'a> {
             status,
             err,
             ..Row::audit(shows, history, "")
+        }
+    }
+
+    /// `audit h --cert c`, where no call fails and there is no `c` before.
+    pub fn certify(shows: &'a str, history: &'a [u8], out: &'a str, cert: &'a [u8]) -> Row<'a> {
+        Row {
+            words: &["audit", "h", "--cert", "c"],
+            after: ("c", Some(cert)),
+            ..Row::audit(shows, history, out)
+        }
+    }
+
+    /// `check h c`, where no call fails: with status 0 or 1 the answer is the output, else the line on `err`.
+    pub fn check(
+        shows: &'a str,
+        history: &'a [u8],
+        cert: &'a [u8],
+        status: u8,
+        answer: &'a str,
+    ) -> Row<'a> {
+        let (out, err) = if status < 2 {
+            (answer, "")
+        } else {
+            ("", answer)
+        };
+        Row {
+            words: &["check", "h", "c"],
+            cert: Some(cert),
+            status,
+            err,
+            after: ("c", Some(cert)),
+            ..Row::audit(shows, history, out)
         }
     }
 }
@@ -70,15 +110,34 @@ fn words_of(alloc: Global, texts: &[&str]) -> Result<Vec<Word>, AllocError> {
     Ok(words)
 }
 
-// A shelf with one file.
-fn shelf_of(alloc: Global, file: (&str, &[u8]), fail: &[u32]) -> Result<MemoryShelf, AllocError> {
-    let (name, bytes) = file;
-    let (Ok(name), Ok(bytes)) = (Bytes::of(alloc, name.as_bytes()), Bytes::of(alloc, bytes)) else {
+// A file: its name and its bytes.
+fn file_of(alloc: Global, name: &[u8], bytes: &[u8]) -> Result<(Bytes, Bytes), AllocError>
+    ensures { IfOk result (λ file. file.0 ≡ name.now) }
+{
+    let (Ok(name), Ok(bytes)) = (Bytes::of(alloc, name), Bytes::of(alloc, bytes)) else {
         return Err(AllocError);
     };
-    let mut files = Vec::new(alloc);
-    files.push((name, bytes))?;
-    match MemoryShelf::prepare(alloc, List::from_vec(files), failing(alloc, fail)?) {
+    Ok((name, bytes))
+}
+
+// The file `h`, and the file `c` where there is one.
+fn files_of(alloc: Global, row: &Row) -> Result<List<(Bytes, Bytes)>, AllocError>
+    ensures { IfOk result HaveDistinctNames }
+{
+    let history = file_of(alloc, b"h", row.history)?;
+    let files = match row.cert {
+        Some(cert) => Vec::from_array(alloc, [history, file_of(alloc, b"c", cert)?])?,
+        None => Vec::from_array(alloc, [history])?,
+    };
+    Ok(List::from_vec(files))
+}
+
+// A shelf with the files of a row.
+fn shelf_of(alloc: Global, row: &Row) -> Result<MemoryShelf, AllocError>
+    ensures { IfOk result (λ shelf. (memory_shown shelf).writing ≡ None) }
+{
+    let files = files_of(alloc, row)?;
+    match MemoryShelf::prepare(alloc, files, failing(alloc, row.shelf_fails)?) {
         Ok(shelf) => Ok(shelf),
         Err(_) => Err(AllocError),
     }
@@ -133,7 +192,9 @@ fn run_over<R: Threads + Sync + Abort + AllocGlobal, S: Shelf, G: Gate>(
     row: &Row,
     shelf: &mut S,
     gate: &G,
-) -> Result<(), AllocError> {
+) -> Result<(), AllocError>
+    requires { (S.shown shelf.old).writing ≡ None }
+{
     let alloc = rt.alloc();
     let words = words_of(alloc, row.words)?;
     let mut out = sink_of(alloc, row.out_fails)?;
@@ -149,16 +210,26 @@ fn run_over<R: Threads + Sync + Abort + AllocGlobal, S: Shelf, G: Gate>(
     Ok(())
 }
 
-/// Runs a row, and demands its answer.
+// Demands that a shelf's files are those of a row afterwards.
+fn demand_files<R: Abort>(rt: &R, row: &Row, shelf: &MemoryShelf) {
+    let shows = row.shows;
+    let (name, bytes) = row.after;
+    assert!(rt; shelf.file(b"h") == Some(row.history), "{shows}: h");
+    assert!(rt; shelf.file(name.as_bytes()) == bytes, "{shows}: {name}");
+}
+
+/// Runs a row, and demands its answer and its files.
 pub fn run_row<R: Threads + Sync + Abort + AllocGlobal>(
     rt: &R,
     row: &Row,
 ) -> Result<(), AllocError> {
-    let mut shelf = shelf_of(rt.alloc(), row.file, row.shelf_fails)?;
-    run_over(rt, row, &mut shelf, &OpenGate)
+    let mut shelf = shelf_of(rt.alloc(), row)?;
+    run_over(rt, row, &mut shelf, &OpenGate)?;
+    demand_files(rt, row, &shelf);
+    Ok(())
 }
 
-/// Runs a row over a shelf that gives at most so many bytes a call, and demands its answer.
+/// Runs a row over a shelf that gives at most so many bytes a call, and demands its answer and its files.
 pub fn run_shortly<R: Threads + Sync + Abort + AllocGlobal>(
     rt: &R,
     row: &Row,
@@ -166,9 +237,24 @@ pub fn run_shortly<R: Threads + Sync + Abort + AllocGlobal>(
 ) -> Result<(), AllocError>
     requires { 0 < most }
 {
-    let inner = shelf_of(rt.alloc(), row.file, row.shelf_fails)?;
+    let inner = shelf_of(rt.alloc(), row)?;
     let mut shelf = ShortShelf { inner, most };
-    run_over(rt, row, &mut shelf, &OpenGate)
+    run_over(rt, row, &mut shelf, &OpenGate)?;
+    demand_files(rt, row, &shelf.inner);
+    Ok(())
+}
+
+/// Runs a row that writes the file `c`, and demands its answer, and that `check` finds the file good.
+pub fn run_then_check<R: Threads + Sync + Abort + AllocGlobal>(
+    rt: &R,
+    row: &Row,
+) -> Result<(), AllocError> {
+    let mut shelf = shelf_of(rt.alloc(), row)?;
+    run_over(rt, row, &mut shelf, &OpenGate)?;
+    let Some(cert) = shelf.file(b"c") else {
+        panic!(rt; "no certificate");
+    };
+    run_row(rt, &Row::check(row.shows, row.history, cert, 0, "good\n"))
 }
 
 /// Audits a history past a gate, where no call fails, and gives the status.
@@ -178,8 +264,9 @@ pub fn audit_past<R: Threads + Sync + AllocGlobal, G: Gate>(
     gate: &G,
 ) -> Result<u8, AllocError> {
     let alloc = rt.alloc();
-    let words = words_of(alloc, &["audit", "h"])?;
-    let mut shelf = shelf_of(alloc, ("h", history), &[])?;
+    let row = Row::audit("an audit past a gate", history, "");
+    let words = words_of(alloc, row.words)?;
+    let mut shelf = shelf_of(alloc, &row)?;
     let mut out = sink_of(alloc, &[])?;
     let mut err = sink_of(alloc, &[])?;
     Ok(run_offline(rt, alloc, &words, &mut shelf, &mut out, &mut err, gate))

@@ -3,12 +3,16 @@
 #![tactic(auto)]
 
 #[cfg(test)]
+mod certificates;
+#[cfg(test)]
+mod checking;
+#[cfg(test)]
 mod harness;
 #[cfg(test)]
 mod judgements;
 #[cfg(test)]
+mod large;
+#[cfg(test)]
 mod outside;
 #[cfg(test)]
 mod reading;
-#[cfg(test)]
-mod verdicts;

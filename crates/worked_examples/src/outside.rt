@@ -11,6 +11,8 @@ const HISTORY: &[u8] = b"client,op,key,value,start,finish\n0,w,x,a,1,3\n1,r,x,a,
 const REPORT: &str =
     "key x operations 2 delta 0 two yes\ntotal keys 1 operations 2 skipped 0 duplicate 0 unmatched 0 infinite 0 atomic 1 two 1 worst 0\n";
 
+const CERT: &[u8] = b"stale-cert 1\nkey 1\ndelta 0\norder 0 1 2\ntwo yes\norder 0 1 2\nend\n";
+
 // A row with other words.
 fn with_words<'a>(shows: &'a str, words: &'a [&'a str]) -> Row<'a> {
     Row {
@@ -29,6 +31,86 @@ fn other_words_are_refused(rt: HostRuntime) -> Result<(), Fail> {
             with_words("an empty name", &["audit", ""]),
             with_words("a word too many", &["audit", "h", "h"]),
             with_words("another mode", &["judge", "h"]),
+            with_words("a mode of another program", &["gen", "1", "0", "1"]),
+            with_words("no worker", &["audit", "h", "--workers", "0"]),
+            with_words("too many workers", &["audit", "h", "--workers", "65"]),
+            with_words("a sign in a number", &["audit", "h", "--workers=+2"]),
+            with_words("an option with no value", &["audit", "h", "--cert"]),
+            with_words(
+                "an option that is shortened",
+                &["audit", "h", "--work", "2"],
+            ),
+            with_words("an unknown option", &["audit", "h", "--seed", "2"]),
+            with_words("the history as output", &["audit", "h", "--cert", "h"]),
+            with_words("an empty name of an output", &["audit", "h", "--cert="]),
+            with_words(
+                "a name that is taken for an option",
+                &["audit", "h", "--cert", "-c"],
+            ),
+            with_words(
+                "an option that comes twice",
+                &["audit", "h", "--workers", "2", "--workers", "2"],
+            ),
+            with_words(
+                "another option that comes twice",
+                &["audit", "h", "--cert", "c", "--cert=d"],
+            ),
+            with_words("a check of one file", &["check", "h"]),
+            with_words("a check of a file by itself", &["check", "h", "h"]),
+            with_words("a check of three files", &["check", "h", "c", "d"]),
+            with_words(
+                "a check with workers",
+                &["check", "h", "c", "--workers", "2"],
+            ),
+            with_words(
+                "a check with an output",
+                &["check", "h", "c", "--cert", "d"],
+            ),
+            with_words("help", &["--help"]),
+        ],
+    )?;
+    Ok(())
+}
+
+// A row with other words that are taken, and the file that is there afterwards.
+fn taken<'a>(shows: &'a str, words: &'a [&'a str], after: (&'a str, Option<&'a [u8]>)) -> Row<'a> {
+    Row {
+        words,
+        after,
+        ..Row::audit(shows, HISTORY, REPORT)
+    }
+}
+
+#[test]
+fn options_stand_anywhere(rt: HostRuntime) -> Result<(), Fail> {
+    run_table(
+        &rt,
+        &[
+            taken(
+                "the most workers",
+                &["audit", "--workers", "64", "h"],
+                ("c", None),
+            ),
+            taken(
+                "a number with zeros",
+                &["audit", "h", "--workers=002"],
+                ("c", None),
+            ),
+            taken(
+                "options first",
+                &["--cert", "c", "audit", "h"],
+                ("c", Some(CERT)),
+            ),
+            taken(
+                "a name that begins as an option",
+                &["audit", "h", "--cert=-c"],
+                ("-c", Some(CERT)),
+            ),
+            taken(
+                "the end of options",
+                &["audit", "--cert=c", "--", "h"],
+                ("c", Some(CERT)),
+            ),
         ],
     )?;
     Ok(())
@@ -112,11 +194,139 @@ fn failed_writes_are_told(rt: HostRuntime) -> Result<(), Fail> {
     Ok(())
 }
 
+// An audit that writes a certificate, where some calls fail, and the file `c` afterwards.
+fn certify_failing<'a>(
+    shows: &'a str,
+    (shelf_fails, out_fails): (&'a [u32], &'a [u32]),
+    (status, out, err): (u8, &'a str, &'a str),
+    after: Option<&'a [u8]>,
+) -> Row<'a> {
+    Row {
+        shelf_fails,
+        out_fails,
+        status,
+        err,
+        after: ("c", after),
+        ..Row::certify(shows, HISTORY, out, CERT)
+    }
+}
+
+const READ_FAILED: (u8, &str, &str) = (6, "", "read failed\n");
+
+const WRITE_FAILED: (u8, &str, &str) = (7, "", "write failed\n");
+
+#[test]
+fn failed_calls_leave_a_part_of_the_certificate(rt: HostRuntime) -> Result<(), Fail> {
+    run_table(
+        &rt,
+        &[
+            certify_failing("the history is not opened", (&[1], &[]), READ_FAILED, None),
+            certify_failing("the first read fails", (&[2], &[]), READ_FAILED, None),
+            certify_failing("the read at the end fails", (&[3], &[]), READ_FAILED, None),
+            certify_failing(
+                "the certificate is not created",
+                (&[4], &[]),
+                WRITE_FAILED,
+                None,
+            ),
+            certify_failing(
+                "it is not written",
+                (&[5], &[]),
+                WRITE_FAILED,
+                Some(b"".as_slice()),
+            ),
+            certify_failing("it is not finished", (&[6], &[]), WRITE_FAILED, Some(CERT)),
+            certify_failing(
+                "no seventh call is made",
+                (&[7], &[]),
+                (0, REPORT, ""),
+                Some(CERT),
+            ),
+            certify_failing(
+                "the report is not written",
+                (&[], &[1]),
+                WRITE_FAILED,
+                Some(CERT),
+            ),
+            certify_failing(
+                "the report is not flushed",
+                (&[], &[2]),
+                (7, REPORT, "write failed\n"),
+                Some(CERT),
+            ),
+            certify_failing(
+                "no third call is made",
+                (&[], &[3]),
+                (0, REPORT, ""),
+                Some(CERT),
+            ),
+            Row {
+                err_fails: &[1],
+                ..certify_failing("the line is not written", (&[4], &[]), (7, "", ""), None)
+            },
+        ],
+    )?;
+    Ok(())
+}
+
+#[test]
+fn an_older_certificate_is_replaced(rt: HostRuntime) -> Result<(), Fail> {
+    let old = [b'x'; 200];
+    let cert = Some(old.as_slice());
+    run_table(
+        &rt,
+        &[
+            Row {
+                cert,
+                ..Row::certify("a longer one", HISTORY, REPORT, CERT)
+            },
+            Row {
+                cert,
+                ..certify_failing("it is not emptied", (&[4], &[]), WRITE_FAILED, cert)
+            },
+            Row {
+                cert,
+                ..certify_failing(
+                    "it is emptied",
+                    (&[5], &[]),
+                    WRITE_FAILED,
+                    Some(b"".as_slice()),
+                )
+            },
+            Row {
+                cert,
+                ..certify_failing(
+                    "it stays where a read fails",
+                    (&[3], &[]),
+                    READ_FAILED,
+                    cert,
+                )
+            },
+            Row {
+                cert,
+                words: &["audit", "nosuch", "--cert", "c"],
+                ..certify_failing(
+                    "it stays where there is no history",
+                    (&[], &[]),
+                    (5, "", "missing: nosuch\n"),
+                    cert,
+                )
+            },
+        ],
+    )?;
+    Ok(())
+}
+
 #[test]
 fn short_reads_are_put_together(rt: HostRuntime) -> Result<(), Fail> {
     let row = Row::audit("a few bytes a call", HISTORY, REPORT);
     run_shortly(&rt, &row, 1)?;
     run_shortly(&rt, &row, 7)?;
+    run_shortly(
+        &rt,
+        &Row::certify("with a certificate", HISTORY, REPORT, CERT),
+        1,
+    )?;
     // The history has 57 bytes: opened by call 1, read by calls 2 to 58, and its end is call 59.
     run_shortly(&rt, &with_shelf("a read amid the file fails", &[30]), 1)?;
     run_shortly(&rt, &with_shelf("the read at the end fails", &[59]), 1)?;
