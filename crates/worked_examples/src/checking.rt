@@ -1,6 +1,6 @@
 //! Certificates that are checked: good ones, those that show nothing, those that are none, and the files they are in.
 
-use crate::harness::{Row, run_row, run_table, run_then_check};
+use crate::harness::{Row, run_row, run_table};
 use std::alloc::{AllocError, Global};
 use std::process::Abort;
 use std::test::Fail;
