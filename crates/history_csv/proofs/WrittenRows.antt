@@ -1,5 +1,5 @@
 -- The fields of a line need no quotes.
-use Rattle.std.proofs.Common.{◌≡◌, ℕ, zero, suc, ◌+◌, ◌<◌, ◌%◌, ◌/◌, ◌++◌, Bool, true, false, List, [], ◌∷◌, refl, ◌∙◌, sym, ap, inl, inr, arith, append_assoc, append-nil, nat_lt, codes, lit<}
+use Rattle.std.proofs.Common.{◌≡◌, ℕ, zero, suc, ◌+◌, ◌%◌, ◌/◌, ◌++◌, true, false, List, [], ◌∷◌, refl, inl, inr, arith, append-nil, nat_lt, codes}
 use Rattle.std.specs.Prelude.{◌==◌}
 use Rattle.std.specs.Fmt.{decimal, digit_glyph, digits, digits_onto}
 use Rattle.std.specs.List.{join_with_byte, list_any}
