@@ -17,3 +17,5 @@ pub mod ValidFacts
 pub mod Definite
 pub mod FewRecords
 pub mod WrittenRows
+pub mod WrittenNumbers
+pub mod ReadsBack

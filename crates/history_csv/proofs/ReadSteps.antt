@@ -33,7 +33,7 @@ behind-behind front middle (Ok entries) = ap Ok (sym (append_assoc front middle 
 behind-behind front middle (Err fault) = refl
 
 -- what is read of a record: all entries, or its fault
-entries-nil : (columns : Columns) (rec : ℕ) → entries_from columns rec [] ≡ Ok []
+pub entries-nil : (columns : Columns) (rec : ℕ) → entries_from columns rec [] ≡ Ok []
 unfolding entries_from
 entries-nil columns rec = refl
 
@@ -41,7 +41,7 @@ entries-many : (columns : Columns) (rec : ℕ) (fields : List (List ℕ)) (rest 
 unfolding entries_from
 entries-many columns rec fields rest many = let test = lt-ltb most_records rec many in rw test refl
 
-entries-next : (columns : Columns) (rec : ℕ) (fields : List (List ℕ)) (rest : List (List (List ℕ))) → rec ≤ most_records
+pub entries-next : (columns : Columns) (rec : ℕ) (fields : List (List ℕ)) (rest : List (List (List ℕ))) → rec ≤ most_records
     → entries_from columns rec (fields ∷ rest) ≡ then_next (entry_of columns rec fields) (λ entry. behind (entry ∷ []) (entries_from columns (rec + 1) rest))
 unfolding entries_from
 entries-next columns rec fields rest few = let test = le-ltb most_records rec few in rw test refl

@@ -4,7 +4,7 @@ pub mod Entries
 pub mod Numbering
 pub mod Building
 pub mod Records
+pub mod Reading
 pub mod Written
 pub mod Writer
-pub mod Reading
 pub mod Laws

@@ -1,10 +1,11 @@
--- The text of a history that is written.
-use Rattle.std.specs.Prelude.{ℕ, ◌==◌, if◌then◌else◌, List, [], ◌∷◌, ◌++◌, codes}
+-- The text of a history that is written, and the entries that it stands for.
+use Rattle.std.specs.Prelude.{◌≡◌, ℕ, ◌+◌, ◌^◌, ◌<◌, ◌≤◌, ◌==◌, if◌then◌else◌, List, [], ◌∷◌, ◌++◌, Some, codes}
 use Rattle.std.specs.Fmt.{decimal}
 use Rattle.std.specs.List.{flat_map, join_with_byte}
 use Rattle.stale_model.specs.declared.Kind.{Kind}
 use Rattle.stale_model.specs.declared.Kind.TheVariants.{Read, Write}
 use Rattle.stale_model.specs.declared.Line.{Line}
+use Rattle.history_csv.specs.Entries.{Entry, greatest_tick}
 
 -- the word of a kind
 abbrev pub op_text : Kind → List ℕ
@@ -35,3 +36,31 @@ header_text = codes "client,op,key,value,start,finish\n"
 -- the header and the lines
 unfoldable pub history_text : List Line → List ℕ
 history_text lines = header_text ++ flat_map line_text lines
+
+-- the entry that a line stands for, as record number rec
+abbrev pub entry_of_line : ℕ → Line → Entry
+entry_of_line rec line = record {
+  rec = rec;
+  client = line.client;
+  kind = line.kind;
+  key = key_text line.key;
+  value = value_text line.value;
+  start = line.start;
+  finish = Some line.finish;
+  slack = 0;
+}
+
+-- the entries that lines stand for, numbered from rec on
+abbrev pub entries_of_lines : ℕ → List Line → List Entry
+entries_of_lines rec [] = []
+entries_of_lines rec (line ∷ lines) = entry_of_line rec line ∷ entries_of_lines (rec + 1) lines
+
+-- a line that reads back: its numbers are of 32 bits, its ticks in order, and a write has a value
+pub record IsReadable (line : Line) : Type 0 where
+  pub client : line.client < 2 ^ 32
+  pub key : line.key < 2 ^ 32
+  pub value : line.value < 2 ^ 32
+  pub filled : line.kind ≡ Write → 1 ≤ line.value
+  pub starts : 1 ≤ line.start
+  pub in_order : line.start ≤ line.finish
+  pub finishes : line.finish ≤ greatest_tick

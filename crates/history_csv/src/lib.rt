@@ -19,7 +19,7 @@ mod writing;
 use crate::entry::entry_of;
 pub use crate::header::column_name;
 use crate::header::{Columns, columns_of};
-pub use crate::laws::records_are_few;
+pub use crate::laws::{records_are_few, what_is_written_reads_back};
 use crate::numbering::HistoryBuilder;
 use crate::records::{read_next, reader_of};
 pub use crate::writing::write_history;
