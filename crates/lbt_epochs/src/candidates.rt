@@ -101,7 +101,8 @@ fn three_read_late(d: u64, f: u64, clusters: &[Cluster], lists: &Lists) -> bool
     requires { IsReady clusters.now lists.now }
     ensures { result ≡ true → HasThreeLateReads d f (clusters_left clusters.now lists.now) }
 {
-    late_read(d, f, clusters, lists.third_late_read()).is_some()
+    let third = lists.third_late_read();
+    late_read(d, f, clusters, third).is_some()
 }
 
 /// Whether it shows that each candidate whose f is this tick or less fails with itself alone: a cluster that is none of
