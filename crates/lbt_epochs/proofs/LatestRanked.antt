@@ -58,12 +58,12 @@ pub record IsRanked (start : Cluster → ℕ) (rest ys : List Cluster) : Type 0 
   pub differ : (a b : Cluster) → Contains rest a → Contains rest b → a.write ≡ b.write → a ≡ b
 
 -- the first is later than the others
-first_is_later : (start : Cluster → ℕ) (y z : Cluster) (zs : List Cluster) → AllPairs (λ a b. is_later start a b ≡ true) (y ∷ zs) → Contains zs z → is_later start y z ≡ true
+pub first_is_later : (start : Cluster → ℕ) (y z : Cluster) (zs : List Cluster) → AllPairs (λ a b. is_later start a b ≡ true) (y ∷ zs) → Contains zs z → is_later start y z ≡ true
 first_is_later start y z zs ranked (k, l, e) =
     let h = ranked 0 (suc k) z (omega arith) (omega arith) in
     rw e at h
 
-no_later_start : (s t w v : ℕ) → (ltb t s || (eqb s t && ltb w v)) ≡ true → t ≤ s
+pub no_later_start : (s t w v : ℕ) → (ltb t s || (eqb s t && ltb w v)) ≡ true → t ≤ s
 no_later_start s t w v h = grind (arith, nat_tests)
 
 -- whether c starts after this tick
@@ -100,13 +100,13 @@ late_first start bound rest [] ranked =
     empty_has_none z (ranked.whole z (kept_is_there (starts_late start bound) rest z c) (omega arith)))
 late_first start bound rest (y ∷ ys) ranked = late_first_by start bound rest ys y (ltb bound (start y)) ranked refl
 
-is_other_from : (w v : ℕ) → (w ≡ v → ⊥) → not (eqb w v || false) ≡ true
+pub is_other_from : (w v : ℕ) → (w ≡ v → ⊥) → not (eqb w v || false) ≡ true
 is_other_from w v h = grind (arith, nat_tests)
 
 differs_from_other : (w v : ℕ) → not (eqb w v || false) ≡ true → w ≡ v → ⊥
 differs_from_other w v h e = grind (arith, nat_tests)
 
-no_later_itself : (s w : ℕ) → (ltb s s || (eqb s s && ltb w w)) ≡ true → ⊥
+pub no_later_itself : (s w : ℕ) → (ltb s s || (eqb s s && ltb w w)) ≡ true → ⊥
 no_later_itself s w h = grind (arith, nat_tests)
 
 -- the others rank without the first

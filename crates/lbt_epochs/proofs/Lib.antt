@@ -4,6 +4,7 @@ pub mod Parts
 -- What a cluster asks of the rest.
 pub mod LatestRanked
 pub mod Demands
+pub mod FailAlone
 -- What chains, rounds and epochs give.
 pub mod ChainForced
 pub mod EnoughRoom
@@ -28,6 +29,7 @@ pub mod SortedPlaces
 -- The clusters at places that are left.
 pub mod LeftPlaces
 pub mod LeftDemands
+pub mod LeftAlone
 pub mod LeftWithout
 -- Chains, rounds and epochs as they go.
 pub mod ChainSoFar

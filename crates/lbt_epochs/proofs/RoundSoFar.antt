@@ -9,8 +9,9 @@ use Rattle.stale_model.specs.declared.Try.{Try}
 use Rattle.stale_model.specs.Chains.{Chain, ends, fails, cut, Round, removes, repeats, refutes, join, round, writes_of}
 use Rattle.stale_model.proofs.Places.{contains_at}
 use Rattle.lbt_epochs.specs.Lists.{Lists, left, cluster_at}
-use Rattle.lbt_epochs.specs.Steps.{clusters_left, chain_at, IsRun, HasFailed, IsCut, HasRemoved, HasKept}
+use Rattle.lbt_epochs.specs.Steps.{clusters_left, chain_at, AllFailAlone, ChainFails, IsReady, IsRun, HasFailed, HasTry, IsCut, HasRemoved, HasKept, IsStuck, HasStuck}
 use Rattle.lbt_epochs.specs.declared.chains.Ran.TheVariants.{Ends}
+use Rattle.lbt_epochs.proofs.LeftAlone.{stuck_from}
 
 -- what a round gives after these tries, where some chain before was cut or none was
 abbrev pub resumed : List Try → Bool → Round → Round
@@ -37,12 +38,24 @@ resumed_cut tries some_cut repeats = refl
 resumed_cut tries true (refutes later) = refl
 resumed_cut tries false (refutes later) = refl
 
+fails_by : (tries : List Try) (first : Chain) (later : Round) (all : List Try) → resumed tries false (join first later) ≡ refutes all → ChainFails first
+fails_by tries (ends cs) later all e = cc
+fails_by tries cut (removes cs) all e = cc
+fails_by tries cut repeats all e = cc
+fails_by tries cut (refutes later) all e = cc
+fails_by tries (fails cs end) later all e = record { clusters = cs; end = end; fails_so = refl }
+
 -- a round of the clusters that are left in old, as far as its candidate at this place
 pub record IsRoundSoFar (d : ℕ) (clusters : List Cluster) (room : ℕ) (old lists : Lists) (count : ℕ) (next : Option ℕ) (tries : List Try) (some_cut : Bool) : Type 0 where
   pub kept : lists ≡ old
   pub next_is : next ≡ slice_get (left old.placed old.candidates) count
   pub round_is : round d room (clusters_left clusters old) (clusters_left clusters old)
       ≡ resumed tries some_cut (round d room (clusters_left clusters old) (map (cluster_at clusters) (drop count (left old.placed old.candidates))))
+
+-- the same with some tries
+pub record IsUntriedSoFar (d : ℕ) (clusters : List Cluster) (room : ℕ) (old lists : Lists) (count : ℕ) (next : Option ℕ) (some_cut : Bool) : Type 0 where
+  pub tries : List Try
+  pub so_far : IsRoundSoFar d clusters room old lists count next tries some_cut
 
 module _ (d : ℕ) (clusters : List Cluster) (room : ℕ) (old : Lists) where
   abbrev candidates : List ℕ
@@ -59,21 +72,35 @@ module _ (d : ℕ) (clusters : List Cluster) (room : ℕ) (old : Lists) where
   round_begins next e = record { kept = refl; next_is = e; round_is = resumed_first whole_round }
 
   -- it ends
-  pub round_ends : (lists : Lists) (count : ℕ) (next : Option ℕ) (tries : List Try) (some_cut : Bool) → IsRoundSoFar d clusters room old lists count next tries some_cut
+  round_ends : (lists : Lists) (count : ℕ) (next : Option ℕ) (tries : List Try) (some_cut : Bool) → IsRoundSoFar d clusters room old lists count next tries some_cut
       → length candidates ≤ count → whole_round ≡ resumed tries some_cut (refutes [])
   round_ends lists count next tries some_cut so_far l =
       so_far.round_is ∙ ap (λ (ps : List ℕ). resumed tries some_cut (round d room (clusters_left clusters old) (map (cluster_at clusters) ps))) (drop_all count candidates l)
 
-  pub round_repeats : (lists : Lists) (count : ℕ) (next : Option ℕ) (tries : List Try) (some_cut : Bool) → IsRoundSoFar d clusters room old lists count next tries some_cut
-      → length candidates ≤ count → some_cut ≡ true → HasKept whole_round repeats old lists
-  round_repeats lists count next tries some_cut so_far l e = record { kept = so_far.kept; round_is = rw e at (round_ends lists count next tries some_cut so_far l) }
-
-  pub round_refutes : (lists : Lists) (count : ℕ) (next : Option ℕ) (tries : List Try) (some_cut : Bool) → IsRoundSoFar d clusters room old lists count next tries some_cut
-      → length candidates ≤ count → some_cut ≡ false → HasKept whole_round (refutes tries) old lists
-  round_refutes lists count next tries some_cut so_far l e = record {
+  pub round_refutes : (lists : Lists) (count : ℕ) (next : Option ℕ) (tries : List Try) → IsRoundSoFar d clusters room old lists count next tries false
+      → length candidates ≤ count → HasKept whole_round (refutes tries) old lists
+  round_refutes lists count next tries so_far l = record {
     kept = so_far.kept;
-    round_is = rw e at (round_ends lists count next tries some_cut so_far l) ∙ ap refutes (append-nil tries);
+    round_is = round_ends lists count next tries false so_far l ∙ ap refutes (append-nil tries);
   }
+
+  -- ---- as it goes on whatever the tries
+
+  pub round_begins_untried : (next : Option ℕ) → next ≡ slice_get candidates 0 → IsUntriedSoFar d clusters room old old 0 next false
+  round_begins_untried next e = record { tries = []; so_far = round_begins next e }
+
+  pub round_repeats : (lists : Lists) (count : ℕ) (next : Option ℕ) (some_cut : Bool) → IsUntriedSoFar d clusters room old lists count next some_cut
+      → length candidates ≤ count → some_cut ≡ true → HasKept whole_round repeats old lists
+  round_repeats lists count next some_cut untried l e = record {
+    kept = untried.so_far.kept;
+    round_is = rw e at (round_ends lists count next untried.tries some_cut untried.so_far l);
+  }
+
+  pub round_is_stuck : (lists : Lists) (count : ℕ) (next : Option ℕ) (some_cut : Bool) → IsUntriedSoFar d clusters room old lists count next some_cut
+      → length candidates ≤ count → some_cut ≡ false → HasStuck whole_round old lists
+  round_is_stuck lists count next some_cut untried l e =
+      let refuted = round_refutes lists count next untried.tries (rw e at untried.so_far) l in
+      record { kept = untried.so_far.kept; stuck = record { tries = untried.tries; round_is = refuted.round_is } }
 
 module _ (d : ℕ) (clusters : List Cluster) (room : ℕ) (old lists : Lists) (count at : ℕ) (next : Option ℕ) (tries : List Try) (some_cut : Bool)
     (so_far : IsRoundSoFar d clusters room old lists count next tries some_cut) (here : next ≡ Some at) where
@@ -98,7 +125,7 @@ module _ (d : ℕ) (clusters : List Cluster) (room : ℕ) (old lists : Lists) (c
   next_too later e = rw so_far.kept at e
 
   -- the chain failed
-  pub round_failed : (new : Lists) (try : Try) (later : Option ℕ) → HasFailed (chain_at d clusters room at lists) lists new try
+  pub round_failed : (new : Lists) (try : Try) (later : Option ℕ) → HasTry (chain_at d clusters room at lists) lists new try
       → later ≡ slice_get (left new.placed new.candidates) (count + 1) → IsRoundSoFar d clusters room old new (count + 1) later (tries ++ try ∷ []) some_cut
   round_failed new try later failed e =
       let chain_is : chain_at d clusters room at old ≡ fails failed.clusters try.end = rw so_far.kept at failed.fails_so in
@@ -123,6 +150,13 @@ module _ (d : ℕ) (clusters : List Cluster) (room : ℕ) (old lists : Lists) (c
         round_is = with_chain ∙ ap (λ (c : Chain). resumed tries some_cut (join c rest)) chain_is ∙ resumed_cut tries some_cut rest;
       }
 
+  -- in a round that is refuted each chain fails
+  pub chain_fails : some_cut ≡ false → IsStuck (round d room (clusters_left clusters old) (clusters_left clusters old)) → ChainFails (chain_at d clusters room at lists)
+  chain_fails e stuck =
+      let rest = round d room (clusters_left clusters old) (map (cluster_at clusters) (drop (count + 1) (left old.placed old.candidates))) in
+      let went : resumed tries false (join (chain_at d clusters room at old) rest) ≡ refutes stuck.tries = rw e at (sym with_chain ∙ stuck.round_is) in
+      rw so_far.kept (fails_by tries (chain_at d clusters room at old) rest stuck.tries went)
+
   -- the chain ended
   pub round_removes : (new : Lists) → IsRun d clusters room at lists new Ends → HasRemoved clusters (round d room (clusters_left clusters old) (clusters_left clusters old)) old new
   round_removes new run =
@@ -133,4 +167,33 @@ module _ (d : ℕ) (clusters : List Cluster) (room : ℕ) (old lists : Lists) (c
         placed = rw so_far.kept at run.placed;
         within = run.within;
         round_is = with_chain ∙ ap (λ (c : Chain). resumed tries some_cut (join c rest)) chain_is;
+      }
+
+module _ (d : ℕ) (clusters : List Cluster) (room : ℕ) (old lists : Lists) (count at : ℕ) (next : Option ℕ) (some_cut : Bool)
+    (untried : IsUntriedSoFar d clusters room old lists count next some_cut) (here : next ≡ Some at) where
+  -- the chain of the candidate failed
+  pub untried_failed : (new : Lists) (end : End) (later : Option ℕ) → HasFailed (chain_at d clusters room at lists) lists new end
+      → later ≡ slice_get (left new.placed new.candidates) (count + 1) → IsUntriedSoFar d clusters room old new (count + 1) later some_cut
+  untried_failed new end later failed e =
+      let try : Try = record { chain = writes_of failed.clusters; end = end } in
+      let as_try : HasTry (chain_at d clusters room at lists) lists new try = record { kept = failed.kept; clusters = failed.clusters; fails_so = failed.fails_so; writes_are = refl } in
+      record {
+        tries = untried.tries ++ try ∷ [];
+        so_far = round_failed d clusters room old lists count at next untried.tries some_cut untried.so_far here new try later as_try e;
+      }
+
+  -- it was cut
+  pub untried_cut : (new : Lists) (later : Option ℕ) → IsCut (chain_at d clusters room at lists) lists new
+      → later ≡ slice_get (left new.placed new.candidates) (count + 1) → IsUntriedSoFar d clusters room old new (count + 1) later true
+  untried_cut new later was e = record { tries = untried.tries; so_far = round_cut d clusters room old lists count at next untried.tries some_cut untried.so_far here new later was e }
+
+  -- the round stops, where one was cut and the round over it and the later ones is refuted
+  pub round_stops : some_cut ≡ true → IsReady clusters old → AllFailAlone d (cluster_at clusters at).f (clusters_left clusters lists)
+      → HasKept (round d room (clusters_left clusters old) (clusters_left clusters old)) repeats old lists
+  round_stops e ready each =
+      let stands : slice_get (left old.placed old.candidates) count ≡ Some at = sym untried.so_far.next_is ∙ here in
+      let later = stuck_from clusters old ready d room count at stands (rw untried.so_far.kept at each) in
+      record {
+        kept = untried.so_far.kept;
+        round_is = rw e at (untried.so_far.round_is ∙ ap (λ (r : Round). resumed untried.tries some_cut r) later.round_is);
       }

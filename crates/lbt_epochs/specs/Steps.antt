@@ -1,16 +1,17 @@
 -- The steps of chains, rounds and epochs over places.
-use Rattle.std.specs.Prelude.{◌≡◌, ℕ, ◌+◌, ◌-◌, ◌^◌, ◌<◌, ◌++◌, [], ◌∷◌, min, nat_lt, if◌then◌else◌, List, map, length, Option, Some, None, All, Contains}
+use Rattle.std.specs.Prelude.{◌≡◌, ℕ, ◌+◌, ◌-◌, ◌^◌, ◌<◌, ◌≤◌, ◌++◌, [], ◌∷◌, min, nat_lt, if◌then◌else◌, List, map, length, Option, Some, None, All, Contains}
 use Rattle.stale_model.specs.declared.Cluster.{Cluster}
+use Rattle.stale_model.specs.declared.End.{End}
 use Rattle.stale_model.specs.declared.Try.{Try}
 use Rattle.stale_model.specs.Clusters.{writes_of, WriteRecordsDiffer}
+use Rattle.stale_model.specs.Zones.{reads_start}
 use Rattle.stale_model.specs.Chains.{without, demand, Demand, nothing, one, impossible, chain, Chain, ends, fails, cut, Round, removes, repeats, refutes, rounds}
 use Rattle.lbt_epochs.specs.Lists.{Lists, with_placed, left, cluster_at, AreListsOf}
 use Rattle.lbt_epochs.specs.declared.chains.Asked.{Asked}
 use Rattle.lbt_epochs.specs.declared.chains.Asked.TheVariants.{Nothing, One, Impossible}
 use Rattle.lbt_epochs.specs.declared.chains.Ran.{Ran}
-use Rattle.lbt_epochs.specs.declared.rounds.Tried.{Tried}
+use Rattle.lbt_epochs.specs.declared.rounds.Went.{Went}
 use Rattle.lbt_epochs.specs.declared.rounds.Found.{Found}
-use Rattle.lbt_epochs.specs.declared.rounds.Found.TheVariants.{Removes, Refutes}
 
 -- the clusters that are not placed, in candidate order
 abbrev pub clusters_left : List Cluster → Lists → List Cluster
@@ -54,8 +55,20 @@ pub record IsRun (d : ℕ) (clusters : List Cluster) (room at : ℕ) (old new : 
   pub within : All (λ place. place < length clusters) places
   pub chain_is : chain_at d clusters room at old ≡ as_chain (map (cluster_at clusters) places) ran
 
--- the chain failed with this try, and nothing more is placed than before
-pub record HasFailed (chain : Chain) (old new : Lists) (try : Try) : Type 0 where
+-- the chain fails
+pub record ChainFails (chain : Chain) : Type 0 where
+  pub clusters : List Cluster
+  pub end : End
+  pub fails_so : chain ≡ fails clusters end
+
+-- the chain failed with this end, and nothing more is placed than before
+pub record HasFailed (chain : Chain) (old new : Lists) (end : End) : Type 0 where
+  pub kept : new ≡ old
+  pub clusters : List Cluster
+  pub fails_so : chain ≡ fails clusters end
+
+-- this is the try of the chain, and nothing more is placed than before
+pub record HasTry (chain : Chain) (old new : Lists) (try : Try) : Type 0 where
   pub kept : new ≡ old
   pub clusters : List Cluster
   pub fails_so : chain ≡ fails clusters try.end
@@ -67,10 +80,41 @@ pub record IsCut (chain : Chain) (old new : Lists) : Type 0 where
   pub cut_so : chain ≡ cut
 
 -- the candidate at a place fared so
-abbrev pub IsTried : ℕ → List Cluster → ℕ → ℕ → Lists → Lists → Tried → Type 0
-IsTried d clusters room at old new Tried.Ends = IsRun d clusters room at old new Ran.Ends
-IsTried d clusters room at old new (Tried.Fails try) = HasFailed (chain_at d clusters room at old) old new try
-IsTried d clusters room at old new Tried.Cut = IsCut (chain_at d clusters room at old) old new
+abbrev pub IsTried : ℕ → List Cluster → ℕ → ℕ → Lists → Lists → Ran → Type 0
+IsTried d clusters room at old new Ran.Ends = IsRun d clusters room at old new Ran.Ends
+IsTried d clusters room at old new (Ran.Fails end) = HasFailed (chain_at d clusters room at old) old new end
+IsTried d clusters room at old new Ran.Cut = IsCut (chain_at d clusters room at old) old new
+
+-- what c asks of the others that are left can't be
+pub record FailsAlone (d : ℕ) (left : List Cluster) (c : Cluster) : Type 0 where
+  pub end : End
+  pub demand_is : demand d c (without left (c ∷ [])) ≡ impossible end
+
+-- so it is for each cluster whose f is at most this
+abbrev pub AllFailAlone : ℕ → ℕ → List Cluster → Type 0
+AllFailAlone d f left = (c : Cluster) → Contains left c → c.f ≤ f → FailsAlone d left c
+
+-- a cluster writes after f, and its own f is no earlier than that
+pub record HasLateWrite (f : ℕ) (left : List Cluster) : Type 0 where
+  pub u : Cluster
+  pub there : Contains left u
+  pub late : f < u.w
+  pub in_turn : u.w ≤ u.f
+
+-- three clusters have reads that start after f, where reads are taken to start d earlier
+pub record HasThreeLateReads (d f : ℕ) (left : List Cluster) : Type 0 where
+  pub x : Cluster
+  pub y : Cluster
+  pub z : Cluster
+  pub x_there : Contains left x
+  pub y_there : Contains left y
+  pub z_there : Contains left z
+  pub x_late : f + d < reads_start x
+  pub y_late : f + d < reads_start y
+  pub z_late : f + d < reads_start z
+  pub x_not_y : x.write ≡ y.write → ⊥
+  pub x_not_z : x.write ≡ z.write → ⊥
+  pub y_not_z : y.write ≡ z.write → ⊥
 
 -- the round removes the chain of these places, which stays placed
 pub record HasRemoved (clusters : List Cluster) (round : Round) (old new : Lists) : Type 0 where
@@ -84,15 +128,26 @@ pub record HasKept (round is : Round) (old new : Lists) : Type 0 where
   pub kept : new ≡ old
   pub round_is : round ≡ is
 
--- what was found is what the round or the rounds give
-abbrev pub IsFound : List Cluster → Round → Lists → Lists → Found → Type 0
-IsFound clusters round old new Removes = HasRemoved clusters round old new
-IsFound clusters round old new (Refutes tries) = HasKept round (refutes tries) old new
+-- some tries refute what is left in the round
+pub record IsStuck (round : Round) : Type 0 where
+  pub tries : List Try
+  pub round_is : round ≡ refutes tries
 
--- the round went so: none where it repeats
-abbrev pub WentSo : List Cluster → Round → Lists → Lists → Option Found → Type 0
-WentSo clusters round old new None = HasKept round repeats old new
-WentSo clusters round old new (Some found) = IsFound clusters round old new found
+-- the round is stuck, and nothing more is placed than before
+pub record HasStuck (round : Round) (old new : Lists) : Type 0 where
+  pub kept : new ≡ old
+  pub stuck : IsStuck round
+
+-- the round went so
+abbrev pub WentSo : List Cluster → Round → Lists → Lists → Went → Type 0
+WentSo clusters round old new Went.Removes = HasRemoved clusters round old new
+WentSo clusters round old new Went.Repeats = HasKept round repeats old new
+WentSo clusters round old new Went.Refutes = HasStuck round old new
+
+-- what was found is what the rounds give
+abbrev pub IsFound : List Cluster → Round → Lists → Lists → Found → Type 0
+IsFound clusters round old new Found.Removes = HasRemoved clusters round old new
+IsFound clusters round old new (Found.Refutes tries) = HasKept round (refutes tries) old new
 
 -- the rounds of the clusters that are not placed
 abbrev pub rounds_of : ℕ → List Cluster → Lists → Round

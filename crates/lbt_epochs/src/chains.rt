@@ -17,6 +17,7 @@ enum Asked {
 }
 
 /// How a chain ran, from its first cluster to the one placed last.
+#[derive(Drop)]
 pub(crate) enum Ran {
     Ends,
     Fails(End),
@@ -33,8 +34,8 @@ fn reads_after(d: u64, f: u64, cluster: &Cluster) -> bool
     }
 }
 
-// This place, where the reads of the cluster at it start after the tick `f`.
-fn late_read(d: u64, f: u64, clusters: &[Cluster], at: Option<u32>) -> Option<u32>
+/// This place, where the reads of the cluster at it start after the tick `f`, taken to start `d` ticks earlier.
+pub(crate) fn late_read(d: u64, f: u64, clusters: &[Cluster], at: Option<u32>) -> Option<u32>
     requires { ForSome at (λ at. at < length clusters.now) }
     ensures late { result ≡ if_late (λ at. reads_start (cluster_at clusters.now at)) (f + d) at }
     ensures within { IfSome result (λ at. at < length clusters.now) }
@@ -45,8 +46,8 @@ fn late_read(d: u64, f: u64, clusters: &[Cluster], at: Option<u32>) -> Option<u3
     }
 }
 
-// The cluster not placed whose write starts latest, where it starts after the tick `f`.
-fn late_write(f: u64, clusters: &[Cluster], lists: &Lists) -> Option<Cluster>
+/// The cluster not placed whose write starts latest, where it starts after the tick `f`.
+pub(crate) fn late_write(f: u64, clusters: &[Cluster], lists: &Lists) -> Option<Cluster>
     requires { IsReady clusters.now lists.now }
     ensures { let writes = map (cluster_at clusters.now) (left lists.now.placed lists.now.writes) in
         result ≡ if_late (λ c. c.w) f (slice_get writes 0) }

@@ -5,8 +5,9 @@ ghost use Rattle.stale_model.specs.Clusters.{writes_of, WriteRecordsDiffer};
 ghost use Rattle.lbt_epochs.specs.Lists.{cluster_at};
 ghost use Rattle.lbt_epochs.specs.Steps.{clusters_left, IsReady};
 
+use crate::candidates::writes_at;
 use crate::lists::{Lists, cluster_at};
-use crate::rounds::{Found, rounds, writes_at};
+use crate::rounds::{Found, rounds};
 use stale_model::{Cluster, List, Memory, Refutation, Two};
 use std::alloc::Global;
 

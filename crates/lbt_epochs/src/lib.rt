@@ -1,6 +1,7 @@
 //! Whether a key is 2-atomic: limited backtracking over its clusters (after Golab, Hurwitz and Li 2013).
 #![tactic(auto)]
 
+mod candidates;
 mod chains;
 mod epochs;
 mod links;

@@ -242,4 +242,13 @@ impl Lists {
             None => (None, None),
         }
     }
+
+    /// The one not placed whose reads start third latest, by the same order.
+    pub fn third_late_read(&self) -> Option<u32>
+        ensures { result ≡ slice_get (left self.now.placed self.now.reads) 2 }
+    {
+        let first = self.by_read.first()?;
+        let second = self.by_read.after(first)?;
+        self.by_read.after(second)
+    }
 }
