@@ -1,3 +1,5 @@
 pub mod Words
 pub mod Lines
 pub mod LastWrites
+pub mod GeneratedLines
+pub mod ReadsBack

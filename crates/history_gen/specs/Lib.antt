@@ -1,3 +1,4 @@
 pub mod Generated
 pub mod LastWrites
 pub mod Generator
+pub mod Laws

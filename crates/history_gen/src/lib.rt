@@ -11,6 +11,10 @@ use rand_pcg::Pcg32;
 use stale_model::{Kind, Line, List, Memory};
 use std::alloc::Global;
 
+mod laws;
+
+pub use crate::laws::generated_lines_read_back;
+
 /// The history of `ops` operations on `keys` keys that this seed gives, in the order of their starts.
 ///
 /// The words, of 32 bits, are those of the generator `Pcg32` (O'Neill, 2014), made by
