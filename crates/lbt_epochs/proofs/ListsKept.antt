@@ -1,11 +1,11 @@
 -- What three orders of places keep when a place is placed and when it is put back.
-use Rattle.std.proofs.Common.{◌≡◌, ℕ, ◌+◌, ◌-◌, ◌<◌, ◌≤◌, true, List, [], ◌∷◌, ◌++◌, length, None, refl, ap, sym, subst, ◌∙◌, inl, inr, arith}
+use Rattle.std.proofs.Common.{◌≡◌, ℕ, ◌+◌, ◌-◌, ◌<◌, ◌≤◌, true, List, [], ◌∷◌, ◌++◌, length, None, refl, ap, sym, subst, ◌∙◌, arith}
 use Rattle.std.specs.Prelude.{slice_get}
-use Rattle.std.proofs.lemmas.Option.{none-some, slice_get_past, slice_get-get_or}
-use Rattle.std.proofs.lemmas.Bool.{cases_lt}
+use Rattle.std.proofs.lemmas.Option.{none-some, slice_get_past}
 use Rattle.stale_model.specs.Orders.{StandsAt}
 use Rattle.lbt_epochs.specs.Lists.{Lists, with_placed, left}
 use Rattle.lbt_epochs.specs.Links.{Links, unlinked, relinked, place_after, has, AreTakenFrom, AreLeft, AreKept}
+use Rattle.lbt_epochs.proofs.WritesOfPlaces.{nothing_next}
 use Rattle.lbt_epochs.proofs.LinksRing.{has_from_StandsAt, left_ring, unlinked_all_ring, first_read, next_read, placed_short, AreTakenFrom-push, AreTakenFrom-front, AreLeft-push, AreLeft-front}
 
 -- a place that is left has a node
@@ -91,12 +91,6 @@ pub no_second : (xs : List ℕ) → slice_get xs 0 ≡ None → slice_get xs 1 �
 no_second [] h = refl
 no_second (x ∷ xs) h = absurd (none-some x (sym h))
 
-nothing_past : (xs : List ℕ) (i : ℕ) → slice_get xs i ≡ None → length xs ≤ i
-nothing_past xs i e = elim (cases_lt i (length xs)) [
-  | inl l ↦ let s = slice_get-get_or xs i 0 l in cc
-  | inr l ↦ l
-]
-
 -- where none stands, none stands later
 pub none_later : (xs : List ℕ) (i j : ℕ) → i ≤ j → slice_get xs i ≡ None → None ≡ slice_get xs j
-none_later xs i j l e = let n = nothing_past xs i e in sym (slice_get_past xs j (omega arith))
+none_later xs i j l e = let n = nothing_next xs i e in sym (slice_get_past xs j (omega arith))
