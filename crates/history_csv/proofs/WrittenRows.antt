@@ -4,7 +4,7 @@ use Rattle.std.specs.Prelude.{◌==◌}
 use Rattle.std.specs.Fmt.{decimal, digit_glyph, digits, digits_onto}
 use Rattle.std.specs.List.{join_with_byte, list_any}
 use Rattle.std.proofs.lemmas.Bool.{cases_Bool, lt-ltb, ne_eqb}
-use Rattle.csv.specs.Writing.{default_writer, fields_text, is_blank, needs_byte, row_text}
+use Rattle.csv.specs.Writing.{comma, default_writer, fields_text, is_blank, needs_byte, row_text}
 use Rattle.stale_model.specs.declared.Kind.{Kind}
 use Rattle.stale_model.specs.declared.Kind.TheVariants.{Read, Write}
 use Rattle.stale_model.specs.declared.Line.{Line}
@@ -14,14 +14,16 @@ use Rattle.history_csv.specs.Written.{header_text, key_text, line_fields, line_t
 abbrev IsPlain : List ℕ → Type 0
 IsPlain text = list_any (needs_byte default_writer) text ≡ false
 
+-- a digit
 digit-plain : (d : ℕ) → needs_byte default_writer (48 + d) ≡ false
 digit-plain d =
-    let comma : ((48 + d) == 44) ≡ false = ne_eqb (48 + d) 44 (λ e. omega (arith, e)) in
-    let quote : ((48 + d) == 34) ≡ false = ne_eqb (48 + d) 34 (λ e. omega (arith, e)) in
-    let return : ((48 + d) == 13) ≡ false = ne_eqb (48 + d) 13 (λ e. omega (arith, e)) in
-    let feed : ((48 + d) == 10) ≡ false = ne_eqb (48 + d) 10 (λ e. omega (arith, e)) in
-    rw (comma, quote, return, feed) refl
+    let no_comma : ((48 + d) == 44) ≡ false = ne_eqb (48 + d) 44 (λ e. omega (arith, e)) in
+    let no_quote : ((48 + d) == 34) ≡ false = ne_eqb (48 + d) 34 (λ e. omega (arith, e)) in
+    let no_return : ((48 + d) == 13) ≡ false = ne_eqb (48 + d) 13 (λ e. omega (arith, e)) in
+    let no_feed : ((48 + d) == 10) ≡ false = ne_eqb (48 + d) 10 (λ e. omega (arith, e)) in
+    rw (no_comma, no_quote, no_return, no_feed) refl
 
+-- digits before a text
 digits-plain : (k n : ℕ) (acc : List ℕ) → IsPlain acc → IsPlain (digits_onto k 10 false n acc)
 digits-plain zero n acc plain = plain
 digits-plain (suc k) n acc plain =
@@ -32,10 +34,12 @@ digits-plain (suc k) n acc plain =
       | inr more ↦ rw more (digits-plain k (n / 10) (digit_glyph false (n % 10) ∷ acc) one)
     ]
 
+-- a number
 decimal-plain : (n : ℕ) → IsPlain (decimal n)
 unfolding digits
 decimal-plain n = digits-plain 64 n [] refl
 
+-- a word, a name and a value
 op-plain : (kind : Kind) → IsPlain (op_text kind)
 op-plain Read = refl
 op-plain Write = refl
@@ -51,7 +55,7 @@ value-plain number = elim (cases_Bool (number == 0)) [
 
 -- the record of six plain fields is these with commas between them
 six_plain : (a b c d e f : List ℕ) → IsPlain a → IsPlain b → IsPlain c → IsPlain d → IsPlain e → IsPlain f
-    → row_text default_writer (a ∷ b ∷ c ∷ d ∷ e ∷ f ∷ []) ≡ join_with_byte 44 (a ∷ b ∷ c ∷ d ∷ e ∷ f ∷ []) ++ codes "\n"
+    → row_text default_writer (a ∷ b ∷ c ∷ d ∷ e ∷ f ∷ []) ≡ join_with_byte comma (a ∷ b ∷ c ∷ d ∷ e ∷ f ∷ []) ++ codes "\n"
 unfolding fields_text is_blank
 six_plain a b c d e f pa pb pc pd pe pf = rw (pa, pb, pc, pd, pe, pf, append-nil f) refl
 

@@ -2,6 +2,7 @@
 use Rattle.std.specs.Prelude.{◌≡◌, ℕ, ◌+◌, ◌^◌, ◌<◌, ◌≤◌, ◌==◌, if◌then◌else◌, List, [], ◌∷◌, ◌++◌, Some, codes}
 use Rattle.std.specs.Fmt.{decimal}
 use Rattle.std.specs.List.{flat_map, join_with_byte}
+use Rattle.csv.specs.Writing.{comma}
 use Rattle.stale_model.specs.declared.Kind.{Kind}
 use Rattle.stale_model.specs.declared.Kind.TheVariants.{Read, Write}
 use Rattle.stale_model.specs.declared.Line.{Line}
@@ -27,7 +28,7 @@ line_fields line =
 
 -- a line: its fields, with commas between them, and a line feed
 abbrev pub line_text : Line → List ℕ
-line_text line = join_with_byte 44 (line_fields line) ++ codes "\n"
+line_text line = join_with_byte comma (line_fields line) ++ codes "\n"
 
 -- the header
 abbrev pub header_text : List ℕ

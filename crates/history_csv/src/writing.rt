@@ -64,8 +64,7 @@ fn fill_record(row: &mut ByteRecord, text: &mut String, line: &Line) -> Result<(
     push_number(row, text, "", line.finish)
 }
 
-// Writes a record. A list of bytes can't fail to be written for another cause than want of memory, and
-// all records have six fields.
+// Writes a record. All records have six fields, and a list takes any bytes, so an error is want of memory.
 fn write_record(writer: &mut Writer<Vec<u8>>, row: &ByteRecord) -> Result<(), Memory>
     requires { IsBetweenRecords writer.old }
     ensures between { OnOk result (IsBetweenRecords writer.new) }
