@@ -1,5 +1,5 @@
 -- Generated lines read back, and their text is not long.
-use Rattle.std.proofs.Common.{◌≡◌, ℕ, ◌+◌, ◌*◌, ◌^◌, ◌<◌, ◌≤◌, List, [], ◌∷◌, ◌++◌, length, All, codes, flat_map, length-append, sum_by, refl, inl, inr, arith}
+use Rattle.std.proofs.Common.{◌≡◌, ℕ, ◌+◌, ◌<◌, ◌≤◌, List, [], ◌∷◌, ◌++◌, length, All, codes, flat_map, length-append, refl, inl, inr, arith}
 use Rattle.std.specs.Prelude.{◌==◌}
 use Rattle.std.specs.Fmt.{decimal}
 use Rattle.std.specs.List.{join_with_byte}
@@ -11,8 +11,7 @@ use Rattle.std.proofs.lemmas.List.Sums.{sum_by-le}
 use Rattle.stale_model.specs.declared.Kind.{Kind}
 use Rattle.stale_model.specs.declared.Kind.TheVariants.{Read, Write}
 use Rattle.stale_model.specs.declared.Line.{Line}
-use Rattle.history_csv.specs.Entries.{greatest_tick}
-use Rattle.history_csv.specs.Written.{IsReadable, header_text, history_text, key_text, line_fields, line_text, op_text, value_text}
+use Rattle.history_csv.specs.Written.{IsReadable, header_text, history_text, key_text, line_text, op_text, value_text}
 use Rattle.history_csv.proofs.ReadsBack.{reads_back}
 use Rattle.history_gen.specs.Generated.{lines_of}
 use Rattle.history_gen.specs.Laws.{GeneratedLinesReadBack}
