@@ -1,5 +1,5 @@
-//! Answers worked by hand, and one of more clusters than two bytes count.
-ghost use Rattle.std.specs.Prelude.{◌≡◌, map, None, IfOk};
+//! Answers worked by hand, and two of many clusters.
+ghost use Rattle.std.specs.Prelude.{◌≡◌, ◌+◌, ◌*◌, ◌/◌, map, None, Some, IfOk};
 ghost use Rattle.std.specs.List.{range_with_len};
 ghost use Rattle.stale_model.specs.Clusters.{WriteRecordsDiffer};
 
@@ -98,6 +98,49 @@ fn writes_that_are_stuck(rt: HostRuntime) -> Result<(), Fail> {
     Ok(())
 }
 
+// Three writes one after the other, and then a read of the first.
+fn stale_read() -> [Cluster; 4]
+    ensures { WriteRecordsDiffer result }
+{
+    let first = Cluster {
+        write: 1,
+        f: 2,
+        w: 1,
+        s: Some(9),
+        first: 1,
+        last: 4,
+    };
+    let second = Cluster {
+        write: 2,
+        f: 4,
+        w: 3,
+        s: None,
+        first: 2,
+        last: 2,
+    };
+    let third = Cluster {
+        write: 3,
+        f: 6,
+        w: 5,
+        s: None,
+        first: 3,
+        last: 3,
+    };
+    [INITIAL, first, second, third]
+}
+
+#[test]
+fn reads_that_start_earlier(rt: HostRuntime) -> Result<(), Fail> {
+    if let Two::Yes(_) = two_atomic_at(rt.alloc(), 2, &stale_read())? {
+        panic!(rt; "a listing of what has none")
+    }
+    let Two::Yes(writes) = two_atomic_at(rt.alloc(), 3, &stale_read())? else {
+        panic!(rt; "a refutation of what has a listing")
+    };
+    assert_eq!(rt; writes.as_slice(), [0, 1, 2, 3].as_slice());
+    Ok(())
+}
+
 // So many writes, each at a tick of its own, without reads.
 fn writes_in_turn(alloc: Global, count: u32) -> Result<Vec<Cluster>, AllocError>
     ensures { IfOk result (λ clusters. clusters.items ≡ map (λ tick. record {
@@ -135,6 +178,71 @@ fn more_writes_than_two_bytes_count(rt: HostRuntime) -> Result<(), Fail> {
         panic!(rt; "a refutation of what has a listing")
     };
     assert_eq!(rt; writes.as_slice().len(), 70_000);
+    for (place, write) in writes.as_slice().iter().enumerate() {
+        assert_eq!(rt; *write as usize, place);
+    }
+    Ok(())
+}
+
+// So many writes, one after the other, of which two are read after each second one.
+fn pairs_in_turn(alloc: Global, count: u32) -> Result<Vec<Cluster>, AllocError>
+    ensures { IfOk result (λ clusters. clusters.items ≡ map (λ turn. record {
+      write = turn;
+      f = turn * 5 + 1;
+      w = turn * 5;
+      s = Some (turn / 2 * 10 + 8);
+      first = turn;
+      last = turn;
+    }) (range_with_len 0 count)) }
+{
+    (0..count)
+        .map(|turn| Cluster {
+            write: turn,
+            f: turn as u64 * 5 + 1,
+            w: turn as u64 * 5,
+            s: Some(turn as u64 / 2 * 10 + 8),
+            first: turn,
+            last: turn,
+        })
+        .collect(alloc)
+}
+
+// The places of those whose reads start latest, and third latest.
+fn late_reads_of_pairs(alloc: Global, count: u32) -> Result<(Option<u32>, Option<u32>), Memory> {
+    let Ok(clusters) = pairs_in_turn(alloc, count) else {
+        return Err(Memory);
+    };
+    let lists = Lists::prepare(alloc, &clusters)?;
+    Ok((lists.late_reads().0, lists.third_late_read()))
+}
+
+#[test]
+fn third_late_read_of_pairs(rt: HostRuntime) -> Result<(), Fail> {
+    let (first, third) = late_reads_of_pairs(rt.alloc(), 4)?;
+    assert_eq!(rt; first, Some(2));
+    assert_eq!(rt; third, Some(0));
+
+    let (first, third) = late_reads_of_pairs(rt.alloc(), 2)?;
+    assert_eq!(rt; first, Some(0));
+    assert_eq!(rt; third, None);
+    Ok(())
+}
+
+// The answer for pairs.
+fn answer_to_pairs(alloc: Global, count: u32) -> Result<Two, Memory> {
+    let Ok(clusters) = pairs_in_turn(alloc, count) else {
+        return Err(Memory);
+    };
+    two_atomic(alloc, &clusters)
+}
+
+// Were all candidates tried in each round, these would take minutes.
+#[test]
+fn pairs_in_short_time(rt: HostRuntime) -> Result<(), Fail> {
+    let Two::Yes(writes) = answer_to_pairs(rt.alloc(), 200_000)? else {
+        panic!(rt; "a refutation of what has a listing")
+    };
+    assert_eq!(rt; writes.as_slice().len(), 200_000);
     for (place, write) in writes.as_slice().iter().enumerate() {
         assert_eq!(rt; *write as usize, place);
     }
