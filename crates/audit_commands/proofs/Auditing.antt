@@ -42,9 +42,10 @@ module _ (file : List ℕ) (cert : Option (List ℕ)) (workers : ℕ) (s m : Sho
   pub ends_unread : (r : Refusal) → HistoryShows file s m r → TaskEnds (Audit file cert workers) s m out out (Err r)
   ends_unread r shows = record {
     keeps = keeps_reading cert s m reads quiet;
+    untouched = λ none. cc;
     faults = omega arith;
     done = tt;
-    refused = refused_before (Audit file cert workers) s m out r (history_shows (Audit file cert workers) s m r shows) reads.keeps.files;
+    refused = refused_before (Audit file cert workers) s m out r (history_shows (Audit file cert workers) file refl s m r shows) reads.keeps.files;
   }
 
   module _ (n : Shown) (out' : SinkShown) (h : History) (verdicts : List Verdict) (taken : TakesHistory file s m h) (are : AreVerdicts h verdicts) where
@@ -66,4 +67,4 @@ module _ (file : List ℕ) (cert : Option (List ℕ)) (workers : ℕ) (s m : Sho
     pub ends_unwritten : (r : Refusal) → WritesAudit cert h verdicts m n out out' (Err r) → TaskEnds (Audit file cert workers) s n out out' (Err r)
     ends_unwritten r w =
         let (kept, faults) = outputs_keep cert h verdicts m n out out' (Err r) (reads.writing ∙ quiet) w in
-        record { keeps = keeps_after cert s m n reads kept; faults = faults; done = tt; refused = refused_outputs r w }
+        record { keeps = keeps_after cert s m n reads kept; untouched = λ none. cc; faults = faults; done = tt; refused = refused_outputs r w }

@@ -65,6 +65,7 @@ module _ (file cert : List ℕ) (s m : Shown) (out : SinkShown) (reads : OnlyRea
       let faults = w.faults in
       record {
         keeps = keeps_reading None s m reads quiet;
+        untouched = λ none. cc;
         faults = omega arith;
         done = rw is (performed found out' f w);
         refused = tt;

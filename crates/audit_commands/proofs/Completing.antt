@@ -9,7 +9,7 @@ use Rattle.cert_text.specs.Reading as certificate
 use Rattle.audit_ports.specs.Shelf.{Shown, Files, Rose, file_at}
 use Rattle.audit_ports.specs.Sink.{SinkShown}
 use Rattle.audit_words.specs.declared.Task.{Task}
-use Rattle.audit_words.specs.declared.Task.TheVariants.{Audit, Check}
+use Rattle.audit_words.specs.declared.Task.TheVariants.{Audit, Check, Gen, Trial}
 use Rattle.audit_words.specs.Tasks.{task_of}
 use Rattle.audit_commands.specs.declared.refusal.Refusal.{Refusal}
 use Rattle.audit_commands.specs.declared.refusal.Refusal.TheVariants as refusal
@@ -54,9 +54,9 @@ module _ (f : Files) (limit : ℕ) (name : List ℕ) (m n : Shown) (is : m.files
       let there : file_at f name ≡ None = told n.files f (λ files. file_at files name ≡ None) (same ∙ is) absent in
       rw there refl
 
-history_told : (f : Files) (task : Task) (s m : Shown) (h : History) → s.files ≡ Some f → TakesHistory (history_file task) s m h → history_in f task ≡ Ok h
-history_told f task s m h is taken =
-    let input = input_told f history_limit (history_file task) s m is taken.bytes taken.input in
+history_told : (f : Files) (file : List ℕ) (s m : Shown) (h : History) → s.files ≡ Some f → TakesHistory file s m h → history_in f file ≡ Ok h
+history_told f file s m h is taken =
+    let input = input_told f history_limit file s m is taken.bytes taken.input in
     let reads : history.read_of taken.bytes ≡ Ok h = taken.reads in
     rw (input, reads) refl
 
@@ -68,19 +68,21 @@ verdicts_told f cert keys m n verdicts is taken =
     rw (input, reads) refl
 
 -- a history that asks for a status
-asks_by_history : (f : Files) (task : Task) (asked : Status) → history_in f task ≡ Err asked → Asks f task asked
-asks_by_history f (Audit file cert workers) asked is = rw is refl
-asks_by_history f (Check file cert) asked is = rw is refl
+asks_by_history : (f : Files) (task : Task) (asked : Status) (name : List ℕ) → history_file task ≡ Some name → history_in f name ≡ Err asked → Asks f task asked
+asks_by_history f (Audit file cert workers) asked name is says = let same : file ≡ name = cc in rw (same, says) refl
+asks_by_history f (Check file cert) asked name is says = let same : file ≡ name = cc in rw (same, says) refl
+asks_by_history f (Gen workload) asked name is says = cc
+asks_by_history f (Trial workload workers) asked name is says = cc
 
 -- a certificate's file that asks for a status
-asks_by_cert : (f : Files) (file cert : List ℕ) (h : History) (asked : Status) → history_in f (Check file cert) ≡ Ok h
+asks_by_cert : (f : Files) (file cert : List ℕ) (h : History) (asked : Status) → history_in f file ≡ Ok h
     → verdicts_in_bytes (length h.keys) (input_in cert_limit (file_at f cert)) ≡ Err asked → Asks f (Check file cert) asked
 asks_by_cert f file cert h asked is cert_is = rw (is, cert_is) refl
 
 asks_by_verdicts : (f : Files) (file cert : List ℕ) (s n : Shown) (h : History) (verdicts : List Verdict) (asked : Status) → s.files ≡ Some f
     → TakesBoth file cert s n h verdicts → VerdictsAsk h.keys (Ok verdicts) asked → Asks f (Check file cert) asked
 asks_by_verdicts f file cert s n h verdicts asked is both ask =
-    let hist : history_in f (Check file cert) ≡ Ok h = history_told f (Check file cert) s both.between h is both.history in
+    let hist : history_in f file ≡ Ok h = history_told f file s both.between h is both.history in
     let certs = verdicts_told f cert (length h.keys) both.between n verdicts (both.history.input.files ∙ is) both.certificate in
     rw (hist, certs) ask
 
@@ -89,16 +91,24 @@ module _ (f : Files) (task : Task) (s n : Shown) (is : s.files ≡ Some f) (same
   asks_by_input : (input : Input) (asked : Status) → IsInput task s input
       → ((m : Shown) → m.files ≡ Some f → n.files ≡ m.files → m ≡ input.before → input_in input.limit (file_at f input.name) ≡ Err asked) → Asks f task asked
   asks_by_input input asked (inl first) says =
-      let before : input.before ≡ s = ap (λ (x : Input). x.before) first in
-      let at = says s is same (sym before) in
-      let at_history : input_in history_limit (file_at f (history_file task)) ≡ Err asked = subst (λ (x : Input). input_in x.limit (file_at f x.name) ≡ Err asked) first at in
-      asks_by_history f task asked (rw at_history refl)
+      let at = says s is same (sym first.before_is) in
+      let at_history : input_in history_limit (file_at f input.name) ≡ Err asked = rw first.limit_is at at in
+      asks_by_history f task asked input.name first.name_is (rw at_history refl)
   asks_by_input input asked (inr c) says =
       let files : input.before.files ≡ s.files = c.history.input.files in
       let at = says input.before (files ∙ is) (same ∙ sym files) refl in
       let at_cert : input_in cert_limit (file_at f input.name) ≡ Err asked = rw c.limit_is at at in
-      let hist : history_in f (Check c.file input.name) ≡ Ok c.h = history_told f (Check c.file input.name) s input.before c.h is c.history in
+      let hist : history_in f c.file ≡ Ok c.h = history_told f c.file s input.before c.h is c.history in
       subst (λ t. Asks f t asked) (sym c.task_is) (asks_by_cert f c.file input.name c.h asked hist (rw at_cert refl))
+
+-- a file is not none
+some_is_none : {file : List ℕ} → Some file ≡ None → ⊥
+some_is_none is = cc
+
+-- a task with no history has no input
+no_input : (task : Task) (s : Shown) (input : Input) → history_file task ≡ None → IsInput task s input → ⊥
+no_input task s input none (inl first) = some_is_none (sym first.name_is ∙ none)
+no_input task s input none (inr c) = some_is_none (sym (ap history_file c.task_is) ∙ none)
 
 module _ (words : List (List ℕ)) (task : Task) (named : task_of words ≡ Some task) (s n : Shown) (o o' e e' : SinkShown) where
   Completes : Files → Status → Type 0
@@ -119,21 +129,24 @@ module _ (words : List (List ℕ)) (task : Task) (named : task_of words ≡ Some
     | inr w ↦ fine.out w.1.faults
   ]
   unwritten_fails (Check file cert) u fine = fine.out u.line.faults
+  unwritten_fails (Gen workload) u fine = fine.out u.text.faults
+  unwritten_fails (Trial workload workers) u fine = fine.out u.line.faults
 
   refused_told : (f : Files) → s.files ≡ Some f → (r : Refusal) (answer : Status) → IsRefused task s n o o' r → Answers r answer e e'
       → NothingFailed (outside s o e) (outside n o' e') → Completes f answer
   unfolding Completes
   refused_told f is (refusal.History fault) answer h (inl (line, l, says)) fine =
-      let x = h.shows.0 in
-      let input = input_told f history_limit (history_file task) s n is x.bytes x.input in
+      let x = h.shows.fault_is in
+      let input = input_told f history_limit h.shows.file s n is x.bytes x.input in
       let reads : history.read_of x.bytes ≡ Err fault = x.reads in
-      by_asking f answer status.HistoryRefused says.status_is (asks_by_history f task status.HistoryRefused (rw (input, reads) refl))
+      by_asking f answer status.HistoryRefused says.status_is
+      (asks_by_history f task status.HistoryRefused h.shows.file h.shows.file_is (rw (input, reads) refl))
   refused_told f is (refusal.History fault) answer h (inr says) fine = inr (ap number says.status_is)
   refused_told f is (refusal.Cert fault) answer h (inl (line, l, says)) fine =
       let x = h.shows in
       let input = input_told f cert_limit x.cert x.taken n (x.history.input.files ∙ is) x.fault_is.bytes x.fault_is.input in
       let reads : certificate.read_of (length x.h.keys) x.fault_is.bytes ≡ Err fault = x.fault_is.reads in
-      let hist : history_in f (Check x.file x.cert) ≡ Ok x.h = history_told f (Check x.file x.cert) s x.taken x.h is x.history in
+      let hist : history_in f x.file ≡ Ok x.h = history_told f x.file s x.taken x.h is x.history in
       by_asking f answer status.CertRefused says.status_is
       (subst (λ t. Asks f t status.CertRefused) (sym x.task_is) (asks_by_cert f x.file x.cert x.h status.CertRefused hist (rw (input, reads) refl)))
   refused_told f is (refusal.Cert fault) answer h (inr says) fine = inr (ap number says.status_is)
@@ -141,7 +154,7 @@ module _ (words : List (List ℕ)) (task : Task) (named : task_of words ≡ Some
       let x = h.shows in
       by_asking f answer status.Missing says.status_is (asks_by_input f task s n is h.files x.input status.Missing x.input_is
       (λ m told_m same before. absent_told f x.input.limit x.input.name m n told_m same x.says.misses.absent))
-  refused_told f is refusal.ReadFailed answer h says fine = absurd (fine.reads h.shows.read_faults)
+  refused_told f is refusal.ReadFailed answer h says fine = absurd (fine.reads h.shows.fails.read_faults)
   refused_told f is refusal.WriteFailed answer h says fine = absurd (unwritten_fails task h fine)
   refused_told f is (refusal.TooLong line) answer h says fine =
       let x = h.shows in
@@ -151,11 +164,15 @@ module _ (words : List (List ℕ)) (task : Task) (named : task_of words ≡ Some
 
   performed_told : (f : Files) → s.files ≡ Some f → (t : Task) (answer : Status) → Performs t s n o o' answer → Asks f t answer
   performed_told f is (Audit file cert workers) status.Done p =
-      let hist : history_in f (Audit file cert workers) ≡ Ok p.h = history_told f (Audit file cert workers) s p.taken p.h is p.audit.input in
+      let hist : history_in f file ≡ Ok p.h = history_told f file s p.taken p.h is p.audit.input in
       rw hist refl
   performed_told f is (Check file cert) status.Done p = asks_by_verdicts f file cert s n p.h p.verdicts status.Done is p.inputs (inl (refl, p.shown))
   performed_told f is (Check file cert) status.NotShown p = asks_by_verdicts f file cert s n p.h p.verdicts status.NotShown is p.inputs (inr (refl, p.not_shown))
+  performed_told f is (Gen workload) status.Done p = refl
+  performed_told f is (Trial workload workers) status.Done p = refl
   performed_told f is (Audit file cert workers) status.NotShown p = absurd p
+  performed_told f is (Gen workload) status.NotShown p = absurd p
+  performed_told f is (Trial workload workers) status.NotShown p = absurd p
   performed_told f is t status.WordsRefused p = absurd p
   performed_told f is t status.HistoryRefused p = absurd p
   performed_told f is t status.CertRefused p = absurd p
@@ -165,12 +182,52 @@ module _ (words : List (List ℕ)) (task : Task) (named : task_of words ≡ Some
   performed_told f is t status.TooLong p = absurd p
   performed_told f is t status.OutOfMemory p = absurd p
 
+  -- of a task with no history, a write that failed is one of the output
+  unwritten_rose : (t : Task) → history_file t ≡ None → IsUnwritten t s n o o' → Rose o.faults o'.faults
+  unwritten_rose (Audit file cert workers) none u = cc
+  unwritten_rose (Check file cert) none u = cc
+  unwritten_rose (Gen workload) none u = u.text.faults
+  unwritten_rose (Trial workload workers) none u = u.line.faults
+
+  -- a task with no history is done where it is performed
+  performed_untold : (t : Task) → history_file t ≡ None → (answer : Status) → Performs t s n o o' answer → answer ≡ status.Done
+  performed_untold t none status.Done p = refl
+  performed_untold (Audit file cert workers) none status.NotShown p = absurd p
+  performed_untold (Check file cert) none status.NotShown p = cc
+  performed_untold (Gen workload) none status.NotShown p = absurd p
+  performed_untold (Trial workload workers) none status.NotShown p = absurd p
+  performed_untold t none status.WordsRefused p = absurd p
+  performed_untold t none status.HistoryRefused p = absurd p
+  performed_untold t none status.CertRefused p = absurd p
+  performed_untold t none status.Missing p = absurd p
+  performed_untold t none status.ReadFailed p = absurd p
+  performed_untold t none status.WriteFailed p = absurd p
+  performed_untold t none status.TooLong p = absurd p
+  performed_untold t none status.OutOfMemory p = absurd p
+
+  -- of a task with no history, nothing but a failed write and a want of memory is refused
+  refused_untold : history_file task ≡ None → (r : Refusal) (answer : Status) → IsRefused task s n o o' r → Answers r answer e e'
+      → (Rose o.faults o'.faults → ⊥) → number answer ≡ number status.OutOfMemory
+  refused_untold none (refusal.History fault) answer h says fine = absurd (some_is_none (sym h.shows.file_is ∙ none))
+  refused_untold none (refusal.Cert fault) answer h says fine = absurd (some_is_none (sym (ap history_file h.shows.task_is) ∙ none))
+  refused_untold none (refusal.Missing line) answer h says fine = absurd (no_input task s h.shows.input none h.shows.input_is)
+  refused_untold none refusal.ReadFailed answer h says fine = absurd (some_is_none (sym h.shows.file_is ∙ none))
+  refused_untold none refusal.WriteFailed answer h says fine = absurd (fine (unwritten_rose task none h))
+  refused_untold none (refusal.TooLong line) answer h says fine = absurd (no_input task s h.shows.input none h.shows.input_is)
+  refused_untold none refusal.Memory answer h says fine = ap number says.status_is
+
   -- a refusal has the status that the contents ask for, or want of memory
   pub refused_complete : (r : Refusal) (answer : Status) → IsRefused task s n o o' r → Answers r answer e e' → IsComplete words (outside s o e) (outside n o' e') (number answer)
   unfolding Completes
-  refused_complete r answer h says = from_told s.files _ (λ f is fine. refused_told f is r answer h says fine)
+  refused_complete r answer h says = record {
+    told = from_told s.files _ (λ f is fine. refused_told f is r answer h says fine);
+    untold = λ none fine. inr (refused_untold (rw named at none) r answer h says fine);
+  }
 
   -- and so has what was performed
   pub performed_complete : (answer : Status) → Performs task s n o o' answer → IsComplete words (outside s o e) (outside n o' e') (number answer)
   unfolding Completes
-  performed_complete answer p = from_told s.files _ (λ f is fine. by_asking f answer answer refl (performed_told f is task answer p))
+  performed_complete answer p = record {
+    told = from_told s.files _ (λ f is fine. by_asking f answer answer refl (performed_told f is task answer p));
+    untold = λ none fine. inl (ap number (performed_untold task (rw named at none) answer p));
+  }

@@ -18,12 +18,14 @@ module _ (words : List (List ℕ)) (task : Task) (asked : task_of words ≡ Some
       rw says.status_is (record {
         task = task;
         asked = asked;
+        file = h.shows.file;
+        file_is = h.shows.file_is;
         fault = fault;
-        fault_is = h.shows.0;
+        fault_is = h.shows.fault_is;
         refuses = rw is (record { files = h.files; out = h.same; says = says.says });
       })
   refused (refusal.History fault) answer h (inr says) =
-      rw says.status_is (record { counts = h.shows.0.input.counts; refuses = record { files = h.files; out = h.same; says = says.says } })
+      rw says.status_is (record { counts = h.shows.fault_is.input.counts; refuses = record { files = h.files; out = h.same; says = says.says } })
   refused (refusal.Cert fault) answer h (inl (line, is, says)) =
       let f = h.shows in
       rw says.status_is (record {
@@ -54,7 +56,7 @@ module _ (words : List (List ℕ)) (task : Task) (asked : task_of words ≡ Some
         refuses = record { files = h.files; out = h.same; says = rw m.says.line_is at says.says };
       })
   refused refusal.ReadFailed answer h says =
-      rw says.status_is (record { fails = h.shows; refuses = record { files = h.files; out = h.same; says = says.says } })
+      rw says.status_is (record { file = h.shows.file; file_is = rw asked h.shows.file_is; fails = h.shows.fails; refuses = record { files = h.files; out = h.same; says = says.says } })
   refused refusal.WriteFailed answer h says =
       rw says.status_is (record { task = task; asked = asked; unwritten = h; says = says.says })
   refused (refusal.TooLong line) answer h says =

@@ -1,5 +1,5 @@
 -- What shows a refusal of a task, from what shows that of its input.
-use Rattle.std.proofs.Common.{◌≡◌, ℕ, List, length, refl, ◌∙◌, inl, inr, subst}
+use Rattle.std.proofs.Common.{◌≡◌, ℕ, List, Some, length, refl, ◌∙◌, inl, inr, subst}
 use Rattle.stale_model.specs.declared.History.{History}
 use Rattle.stale_model.specs.declared.Verdict.{Verdict}
 use Rattle.audit_ports.specs.Shelf.{Shown, Rose, KeepsCounts, FailsReading}
@@ -8,19 +8,29 @@ use Rattle.audit_words.specs.declared.Task.{Task}
 use Rattle.audit_words.specs.declared.Task.TheVariants.{Check}
 use Rattle.audit_commands.specs.declared.refusal.Refusal.{Refusal}
 use Rattle.audit_commands.specs.declared.refusal.Refusal.TheVariants as refusal
-use Rattle.audit_commands.specs.Audit.{cert_limit, TakesHistory, TakesBoth, history_file, history_input}
+use Rattle.audit_commands.specs.Audit.{Input, IsInput, history_limit, cert_limit, TakesHistory, TakesBoth, history_file}
 use Rattle.audit_commands.proofs.WritingFiles.{counts_kept}
 use Rattle.audit_commands.specs.Refusals.{HistoryShows, CertShows, Shows, IsRefused}
 
--- a refusal of the history is one of the task
-pub history_shows : (task : Task) (s m : Shown) (r : Refusal) → HistoryShows (history_file task) s m r → Shows task s m r
-history_shows task s m (refusal.History fault) h = h
-history_shows task s m (refusal.Cert fault) h = absurd h
-history_shows task s m (refusal.Missing line) h = record { input = history_input task s; input_is = inl refl; says = h }
-history_shows task s m refusal.ReadFailed h = h
-history_shows task s m refusal.WriteFailed h = absurd h
-history_shows task s m (refusal.TooLong line) h = record { input = history_input task s; input_is = inl refl; says = h }
-history_shows task s m refusal.Memory h = h
+module _ (task : Task) (file : List ℕ) (file_is : history_file task ≡ Some file) (s m : Shown) where
+  -- the history's input
+  input : Input
+  input = record { name = file; limit = history_limit; before = s }
+
+  is_input : IsInput task s input
+  unfolding input
+  is_input = inl (record { name_is = file_is; limit_is = refl; before_is = refl })
+
+  -- a refusal of the history is one of the task
+  pub history_shows : (r : Refusal) → HistoryShows file s m r → Shows task s m r
+  unfolding input
+  history_shows (refusal.History fault) h = record { file = file; file_is = file_is; fault_is = h.0; line = h.1 }
+  history_shows (refusal.Cert fault) h = absurd h
+  history_shows (refusal.Missing line) h = record { input = input; input_is = is_input; says = h }
+  history_shows refusal.ReadFailed h = record { file = file; file_is = file_is; fails = h }
+  history_shows refusal.WriteFailed h = absurd h
+  history_shows (refusal.TooLong line) h = record { input = input; input_is = is_input; says = h }
+  history_shows refusal.Memory h = h
 
 -- counts that were kept, and a read that failed
 fails_reading_after : (s m n : Shown) → KeepsCounts s m → FailsReading m n → FailsReading s n
@@ -41,7 +51,7 @@ cert_shows file cert s m n h (refusal.Missing line) taken c = record {
   input_is = inr (record { file = file; task_is = refl; limit_is = refl; h = h; history = taken });
   says = c;
 }
-cert_shows file cert s m n h refusal.ReadFailed taken c = fails_reading_after s m n taken.input.counts c
+cert_shows file cert s m n h refusal.ReadFailed taken c = record { file = file; file_is = refl; fails = fails_reading_after s m n taken.input.counts c }
 cert_shows file cert s m n h refusal.WriteFailed taken c = absurd c
 cert_shows file cert s m n h (refusal.TooLong line) taken c = record {
   input = record { name = cert; limit = cert_limit; before = m };

@@ -65,7 +65,7 @@ done_alone keys verdicts asked shown (inr not_shown) = absurd (not_shown.1 shown
 pub written_are_good : WrittenCertificatesAreGood
 written_are_good files file cert bytes h verdicts there within reads are cert_there cert_within =
     let input = input_within (file_at files file) history_limit bytes there within in
-    let hist : history_in files (Check file cert) ≡ Ok h = rw (input, reads) refl in
+    let hist : history_in files file ≡ Ok h = rw (input, reads) refl in
     let cert_input = input_within (file_at files cert) cert_limit (cert_text verdicts) cert_there cert_within in
     let back = text_reads_back h (within_bounds bytes h reads) verdicts are.shown in
     let certs : verdicts_in_bytes (length h.keys) (input_in cert_limit (file_at files cert)) ≡ Ok verdicts = rw (cert_input, back) refl in

@@ -1,5 +1,5 @@
 -- What the inputs of a command are, and what an audit of a history says.
-use Rattle.std.specs.Prelude.{◌≡◌, ◌⊎◌, ℕ, List, length, Option, None, Ok, Err}
+use Rattle.std.specs.Prelude.{◌≡◌, ◌⊎◌, ℕ, List, length, Option, Some, None, Ok, Err}
 use Rattle.stale_model.specs.declared.History.{History}
 use Rattle.stale_model.specs.declared.Verdict.{Verdict}
 use Rattle.stale_model.specs.PrintedVerdicts.{ArePrintedVerdicts}
@@ -11,7 +11,7 @@ use Rattle.history_csv.specs.Reading as history
 use Rattle.cert_text.specs.declared.CertFault.{CertFault}
 use Rattle.cert_text.specs.Reading as certificate
 use Rattle.audit_words.specs.declared.Task.{Task}
-use Rattle.audit_words.specs.declared.Task.TheVariants.{Audit, Check}
+use Rattle.audit_words.specs.declared.Task.TheVariants.{Audit, Check, Gen, Trial}
 use Rattle.audit_commands.specs.Input.{TakesInput}
 
 -- the greatest length of a history file, in bytes
@@ -58,15 +58,19 @@ pub record AreVerdicts (h : History) (verdicts : List Verdict) : Type 0 where
   pub shown : EachKeyHas IsShown h.keys verdicts
   pub printed : ArePrintedVerdicts h.keys verdicts
 
--- the file with the history of a task
-abbrev pub history_file : Task → List ℕ
-history_file (Audit file cert workers) = file
-history_file (Check file cert) = file
+-- the file with the history of a task, if it has one
+abbrev pub history_file : Task → Option (List ℕ)
+history_file (Audit file cert workers) = Some file
+history_file (Check file cert) = Some file
+history_file (Gen workload) = None
+history_file (Trial workload workers) = None
 
 -- the file that a task writes, if it writes one
 abbrev pub output_file : Task → Option (List ℕ)
 output_file (Audit file cert workers) = cert
 output_file (Check file cert) = None
+output_file (Gen workload) = None
+output_file (Trial workload workers) = None
 
 -- an input file, the greatest length that it may have, and what is known of the shelf before it is opened
 pub record Input : Type 0 where
@@ -75,8 +79,10 @@ pub record Input : Type 0 where
   pub before : Shown
 
 -- the history is the first input
-abbrev pub history_input : Task → Shown → Input
-history_input task old = record { name = history_file task; limit = history_limit; before = old }
+pub record IsHistoryInput (task : Task) (old : Shown) (input : Input) : Type 0 where
+  pub name_is : history_file task ≡ Some input.name
+  pub limit_is : input.limit ≡ history_limit
+  pub before_is : input.before ≡ old
 
 -- the certificate of a check comes after its history, which has no fault
 pub record IsCertInput (task : Task) (old : Shown) (input : Input) : Type 0 where
@@ -88,4 +94,4 @@ pub record IsCertInput (task : Task) (old : Shown) (input : Input) : Type 0 wher
 
 -- an input of a task, behind those that have no fault
 abbrev pub IsInput : Task → Shown → Input → Type 0
-IsInput task old input = (input ≡ history_input task old) ⊎ IsCertInput task old input
+IsInput task old input = IsHistoryInput task old input ⊎ IsCertInput task old input

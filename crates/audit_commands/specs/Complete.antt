@@ -1,5 +1,5 @@
--- Which status a call ends with, where files are told, nothing fails and memory is ample.
-use Rattle.std.specs.Prelude.{◌≡◌, ◌⊎◌, ℕ, nat_lt, if◌then◌else◌, List, length, Option, Some, None, IfSome, Result, Ok, Err}
+-- Which status a call ends with, where nothing fails, memory is ample, and files are told if the words name any.
+use Rattle.std.specs.Prelude.{◌≡◌, ◌⊎◌, ℕ, nat_lt, if◌then◌else◌, List, length, Option, Some, None, IfSome, IsSomeAnd, Result, Ok, Err}
 use Rattle.stale_model.specs.declared.KeyOps.{KeyOps}
 use Rattle.stale_model.specs.declared.History.{History}
 use Rattle.stale_model.specs.declared.Verdict.{Verdict}
@@ -11,7 +11,7 @@ use Rattle.cert_text.specs.declared.CertFault.{CertFault}
 use Rattle.cert_text.specs.Reading as certificate
 use Rattle.audit_ports.specs.Shelf.{Files, Rose, file_at}
 use Rattle.audit_words.specs.declared.Task.{Task}
-use Rattle.audit_words.specs.declared.Task.TheVariants.{Audit, Check}
+use Rattle.audit_words.specs.declared.Task.TheVariants.{Audit, Check, Gen, Trial}
 use Rattle.audit_words.specs.Tasks.{task_of}
 use Rattle.audit_commands.specs.declared.status.Status.{Status}
 use Rattle.audit_commands.specs.declared.status.Status.TheVariants as status
@@ -66,21 +66,26 @@ abbrev pub AuditAsks : Result History Status → Status → Type 0
 AuditAsks (Err s) asked = asked ≡ s
 AuditAsks (Ok h) asked = asked ≡ status.Done
 
--- the history in the file that a task names, or the status that the file asks for
-abbrev pub history_in : Files → Task → Result History Status
-history_in files task = history_in_bytes (input_in history_limit (file_at files (history_file task)))
+-- the history in the file of this name, or the status that the file asks for
+abbrev pub history_in : Files → List ℕ → Result History Status
+history_in files name = history_in_bytes (input_in history_limit (file_at files name))
 
 -- the status that a task asks for over these files
 abbrev pub Asks : Files → Task → Status → Type 0
-Asks files (Audit file cert workers) asked = AuditAsks (history_in files (Audit file cert workers)) asked
-Asks files (Check file cert) asked = CheckAsks (history_in files (Check file cert)) (file_at files cert) asked
+Asks files (Audit file cert workers) asked = AuditAsks (history_in files file) asked
+Asks files (Check file cert) asked = CheckAsks (history_in files file) (file_at files cert) asked
+Asks files (Gen workload) asked = asked ≡ status.Done
+Asks files (Trial workload workers) asked = asked ≡ status.Done
 
 -- the status that words ask for over these files
 abbrev pub WordsAsk : Files → Option Task → Status → Type 0
 WordsAsk files None asked = asked ≡ status.WordsRefused
 WordsAsk files (Some task) asked = Asks files task asked
 
--- where files are told and nothing failed, the status is the one that words and files ask for, or want of memory
-abbrev pub IsComplete : List (List ℕ) → Outside → Outside → ℕ → Type 0
-IsComplete words old new answer = IfSome old.shelf.files (λ files. NothingFailed old new
-    → ((asked : Status) × WordsAsk files (task_of words) asked × (answer ≡ number asked)) ⊎ (answer ≡ number status.OutOfMemory))
+-- where nothing failed, the status is the one that words and files ask for, or want of memory; words that name no history ask for done, whether
+-- files are told or not
+pub record IsComplete (words : List (List ℕ)) (old new : Outside) (answer : ℕ) : Type 0 where
+  pub told : IfSome old.shelf.files (λ files. NothingFailed old new
+      → ((asked : Status) × WordsAsk files (task_of words) asked × (answer ≡ number asked)) ⊎ (answer ≡ number status.OutOfMemory))
+  pub untold : IsSomeAnd (task_of words) (λ task. history_file task ≡ None) → (Rose old.out.faults new.out.faults → ⊥)
+      → (answer ≡ number status.Done) ⊎ (answer ≡ number status.OutOfMemory)

@@ -14,7 +14,7 @@ use Rattle.staleness_report.specs.Report.{report_text}
 use Rattle.audit_ports.specs.Shelf.{Shown, Files, KeepsCounts, Misses, FailsReading, WhereTold, file_at}
 use Rattle.audit_ports.specs.Sink.{SinkShown}
 use Rattle.audit_words.specs.declared.Task.{Task}
-use Rattle.audit_words.specs.declared.Task.TheVariants.{Audit, Check}
+use Rattle.audit_words.specs.declared.Task.TheVariants.{Audit, Check, Gen, Trial}
 use Rattle.audit_words.specs.Tasks.{task_of}
 use Rattle.audit_commands.specs.declared.status.Status.{Status}
 use Rattle.audit_commands.specs.declared.status.Status.TheVariants as status
@@ -22,6 +22,7 @@ use Rattle.audit_commands.specs.Status.{number}
 use Rattle.audit_commands.specs.Input.{IsTooLong}
 use Rattle.audit_commands.specs.Output.{WritesWhole, WritesPart, WritesNamed, WritesNamedPart}
 use Rattle.audit_commands.specs.Audit.{TakesHistory, IsFaultOf, IsCertFaultOf, TakesBoth, AreVerdicts, Input, IsInput, history_file, output_file}
+use Rattle.audit_commands.specs.Generated.{GenDone, TrialDone, GenUnwritten, TrialUnwritten}
 use Rattle.audit_commands.specs.Lines.{SaysLine, check_line, words_line, fault_line, cert_fault_line, missing_line, too_long_line, read_failed_line, write_failed_line, memory_line}
 
 -- what is known of the outside: of the shelf, of the output and of the error output
@@ -45,6 +46,11 @@ abbrev pub named_output : Option Task → Option (List ℕ)
 named_output None = None
 named_output (Some task) = output_file task
 
+-- the file that the words name for a history, if they do
+abbrev pub named_history : Option Task → Option (List ℕ)
+named_history None = None
+named_history (Some task) = history_file task
+
 -- every file but this output is as before, no count fell, and nothing is being written
 pub record KeepsShelf (output : Option (List ℕ)) (old new : Shown) : Type 0 where
   pub files : KeepsOthers output old.files new.files
@@ -53,9 +59,10 @@ pub record KeepsShelf (output : Option (List ℕ)) (old new : Shown) : Type 0 wh
   pub misses : old.misses ≤ new.misses
   pub writing : new.writing ≡ None
 
--- every file but the output that the words name is as before, and no count fell
+-- every file but the output that the words name is as before, and no count fell; where the words name no history, the shelf is wholly as it was
 pub record KeepsOutside (words : List (List ℕ)) (old new : Outside) : Type 0 where
   pub shelf : KeepsShelf (named_output (task_of words)) old.shelf new.shelf
+  pub untouched : named_history (task_of words) ≡ None → new.shelf ≡ old.shelf
   pub out : old.out.faults ≤ new.out.faults
   pub err : old.err.faults ≤ new.err.faults
 
@@ -92,6 +99,8 @@ pub record CheckDone (file cert : List ℕ) (old new : Shown) (out out' : SinkSh
 abbrev pub IsDone : Task → Shown → Shown → SinkShown → SinkShown → Type 0
 IsDone (Audit file cert workers) old new out out' = AuditDone file cert old new out out'
 IsDone (Check file cert) old new out out' = CheckDone file cert old new out out'
+IsDone (Gen workload) old new out out' = GenDone workload old new out out'
+IsDone (Trial workload workers) old new out out' = TrialDone workload old new out out'
 
 -- done, as the words ask
 pub record EndsDone (words : List (List ℕ)) (old new : Outside) : Type 0 where
@@ -130,8 +139,10 @@ pub record EndsWordsRefused (words : List (List ℕ)) (old new : Outside) : Type
 pub record EndsHistoryRefused (words : List (List ℕ)) (old new : Outside) : Type 0 where
   pub task : Task
   pub asked : task_of words ≡ Some task
+  pub file : List ℕ
+  pub file_is : history_file task ≡ Some file
   pub fault : HistoryFault
-  pub fault_is : IsFaultOf (history_file task) old.shelf new.shelf fault
+  pub fault_is : IsFaultOf file old.shelf new.shelf fault
   pub refuses : IsSomeAnd (fault_line fault) (λ line. Refuses line old new)
 
 -- the certificate that the words name is refused by its fault, which the line says
@@ -155,8 +166,10 @@ pub record EndsMissing (words : List (List ℕ)) (old new : Outside) : Type 0 wh
   pub misses : Misses input.name input.before new.shelf
   pub refuses : Refuses (missing_line input.name) old new
 
--- a read failed
-pub record EndsReadFailed (old new : Outside) : Type 0 where
+-- a read failed, for words that name a history
+pub record EndsReadFailed (words : List (List ℕ)) (old new : Outside) : Type 0 where
+  pub file : List ℕ
+  pub file_is : named_history (task_of words) ≡ Some file
   pub fails : FailsReading old.shelf new.shelf
   pub refuses : Refuses read_failed_line old new
 
@@ -182,6 +195,8 @@ pub record CheckUnwritten (file cert : List ℕ) (old new : Shown) (out out' : S
 abbrev pub IsUnwritten : Task → Shown → Shown → SinkShown → SinkShown → Type 0
 IsUnwritten (Audit file cert workers) old new out out' = AuditUnwritten file cert old new out out'
 IsUnwritten (Check file cert) old new out out' = CheckUnwritten file cert old new out out'
+IsUnwritten (Gen workload) old new out out' = GenUnwritten workload old new out out'
+IsUnwritten (Trial workload workers) old new out out' = TrialUnwritten workload old new out out'
 
 -- a write failed, and the line says so
 pub record EndsWriteFailed (words : List (List ℕ)) (old new : Outside) : Type 0 where
@@ -212,7 +227,7 @@ Ends words old new status.WordsRefused = EndsWordsRefused words old new
 Ends words old new status.HistoryRefused = EndsHistoryRefused words old new
 Ends words old new status.CertRefused = EndsCertRefused words old new
 Ends words old new status.Missing = EndsMissing words old new
-Ends words old new status.ReadFailed = EndsReadFailed old new
+Ends words old new status.ReadFailed = EndsReadFailed words old new
 Ends words old new status.WriteFailed = EndsWriteFailed words old new
 Ends words old new status.TooLong = EndsTooLong words old new
 Ends words old new status.OutOfMemory = EndsOutOfMemory old new

@@ -3,6 +3,7 @@ pub mod Lines
 pub mod Input
 pub mod Output
 pub mod Audit
+pub mod Generated
 pub mod Ends
 pub mod Complete
 pub mod Steps

@@ -12,7 +12,8 @@ use Rattle.staleness_report.specs.Report.{report_text}
 use Rattle.audit_ports.specs.Shelf.{Shown, KeepsCounts, Misses, FailsReading}
 use Rattle.audit_ports.specs.Sink.{SinkShown}
 use Rattle.audit_words.specs.declared.Task.{Task}
-use Rattle.audit_words.specs.declared.Task.TheVariants.{Audit, Check}
+use Rattle.audit_words.specs.declared.Workload.{Workload}
+use Rattle.audit_words.specs.declared.Task.TheVariants.{Audit, Check, Gen, Trial}
 use Rattle.audit_commands.specs.declared.status.Status.{Status}
 use Rattle.audit_commands.specs.declared.status.Status.TheVariants as status
 use Rattle.audit_commands.specs.declared.refusal.Refusal.{Refusal}
@@ -94,6 +95,19 @@ pub record ShowsCertFault (task : Task) (old new : Shown) (fault : CertFault) : 
   pub fault_is : IsCertFaultOf cert (length h.keys) taken new fault
   pub no_memory : fault ≢ cert_fault.Memory
 
+-- the task's history has this fault
+pub record ShowsHistoryFault (task : Task) (old new : Shown) (fault : HistoryFault) : Type 0 where
+  pub file : List ℕ
+  pub file_is : history_file task ≡ Some file
+  pub fault_is : IsFaultOf file old new fault
+  pub line : HasLine fault
+
+-- the task has a history, and a read failed
+pub record ShowsReadFailed (task : Task) (old new : Shown) : Type 0 where
+  pub file : List ℕ
+  pub file_is : history_file task ≡ Some file
+  pub fails : FailsReading old new
+
 -- an input of the task, and what shows that it is refused
 pub record ShowsInput (Says : Input → Type 0) (task : Task) (old : Shown) : Type 0 where
   pub input : Input
@@ -102,10 +116,10 @@ pub record ShowsInput (Says : Input → Type 0) (task : Task) (old : Shown) : Ty
 
 -- what shows a refusal of a task that comes before any output
 abbrev pub Shows : Task → Shown → Shown → Refusal → Type 0
-Shows task old new (refusal.History fault) = IsFaultOf (history_file task) old new fault × HasLine fault
+Shows task old new (refusal.History fault) = ShowsHistoryFault task old new fault
 Shows task old new (refusal.Cert fault) = ShowsCertFault task old new fault
 Shows task old new (refusal.Missing line) = ShowsInput (λ input. ShowsMissing input.name input.before new line) task old
-Shows task old new refusal.ReadFailed = FailsReading old new
+Shows task old new refusal.ReadFailed = ShowsReadFailed task old new
 Shows task old new refusal.WriteFailed = ⊥
 Shows task old new (refusal.TooLong line) = ShowsInput (λ input. ShowsTooLong input.limit input.name input.before new line) task old
 Shows task old new refusal.Memory = KeepsCounts old new
@@ -121,14 +135,28 @@ abbrev pub IsRefused : Task → Shown → Shown → SinkShown → SinkShown → 
 IsRefused task old new out out' refusal.WriteFailed = IsUnwritten task old new out out'
 IsRefused task old new out out' other = RefusedBefore task old new out out' other
 
--- the number of workers of a task is 1 to 64
-abbrev pub HasWorkers : Task → Type 0
-HasWorkers (Audit file cert workers) = (1 ≤ workers) × (workers ≤ 64)
-HasWorkers (Check file cert) = ⊤
+-- the numbers of a generated history are within their limits
+pub record IsWorkload (workload : Workload) : Type 0 where
+  pub some_key : 1 ≤ workload.keys
+  pub few_keys : workload.keys ≤ 100000
+  pub few_ops : workload.ops ≤ 1000000
+
+-- the number of workers is 1 to 64
+pub record AreWorkers (workers : ℕ) : Type 0 where
+  pub some : 1 ≤ workers
+  pub few : workers ≤ 64
+
+-- the numbers of a task are within their limits
+abbrev pub IsWithin : Task → Type 0
+IsWithin (Audit file cert workers) = AreWorkers workers
+IsWithin (Check file cert) = ⊤
+IsWithin (Gen workload) = IsWorkload workload
+IsWithin (Trial workload workers) = IsWorkload workload × AreWorkers workers
 
 -- how a task ends
 pub record TaskEnds (task : Task) (old new : Shown) (out out' : SinkShown) (result : Result Status Refusal) : Type 0 where
   pub keeps : KeepsShelf (output_file task) old new
+  pub untouched : history_file task ≡ None → new ≡ old
   pub faults : out.faults ≤ out'.faults
   pub done : IfOk result (Performs task old new out out')
   pub refused : IfErr result (IsRefused task old new out out')

@@ -1,11 +1,11 @@
 //! The audit of a history file.
 
-ghost use Rattle.std.specs.Prelude.{◌≡◌, ◌≤◌, ◌<◌, ◌^◌, IsTrue, None, length};
+ghost use Rattle.std.specs.Prelude.{◌≡◌, ◌<◌, ◌^◌, IsTrue, None, length};
 ghost use Rattle.std.specs.List.{list_all};
 ghost use Rattle.stale_model.specs.Valid.{IsValidHistory};
 ghost use Rattle.cert_text.specs.Certificates.{has_chains};
 ghost use Rattle.audit_words.specs.declared.Task.{Task};
-ghost use Rattle.audit_commands.specs.Refusals.{Certifies, WritesAudit, TaskEnds};
+ghost use Rattle.audit_commands.specs.Refusals.{AreWorkers, Certifies, WritesAudit, TaskEnds};
 
 use crate::history::history_in;
 use crate::output::{print, write_file};
@@ -73,8 +73,7 @@ pub(crate) fn audit<R: Threads + Sync, S: Shelf, O: Sink, G: Gate>(
     out: &mut O,
     gate: &G,
 ) -> Result<Status, Refusal>
-    requires some_worker { 1 ≤ workers }
-    requires few_workers { workers ≤ 64 }
+    requires workers { AreWorkers workers }
     requires writing { (S.shown shelf.old).writing ≡ None }
     ensures { TaskEnds (Task.Audit file.now cert.now workers) (S.shown shelf.old) (S.shown shelf.new)
         (O.shown out.old) (O.shown out.new) result }

@@ -7,11 +7,12 @@ ghost use Rattle.audit_commands.specs.Status.{number};
 ghost use Rattle.audit_commands.specs.Lines.{memory_line, SaysLine};
 ghost use Rattle.audit_commands.specs.Ends.{outside, KeepsOutside, EndsAs};
 ghost use Rattle.audit_commands.specs.Complete.{IsComplete};
-ghost use Rattle.audit_commands.specs.Refusals.{HasWorkers, TaskEnds};
+ghost use Rattle.audit_commands.specs.Refusals.{IsWithin, TaskEnds};
 
 mod audit;
 mod certificate;
 mod check;
+mod generated;
 mod history;
 mod input;
 mod laws;
@@ -21,6 +22,7 @@ mod status;
 
 use crate::audit::audit;
 use crate::check::check;
+use crate::generated::{generate, trial};
 use crate::refusal::{Refusal, end, end_without_memory, refuse};
 use audit_ports::{Gate, Shelf, Sink};
 use audit_words::{Task, Word, task_of};
@@ -39,7 +41,7 @@ fn perform<R: Threads + Sync, S: Shelf, O: Sink, G: Gate>(
     out: &mut O,
     gate: &G,
 ) -> Result<Status, Refusal>
-    requires workers { HasWorkers task.now }
+    requires within { IsWithin task.now }
     requires writing { (S.shown shelf.old).writing ≡ None }
     ensures { TaskEnds task.now (S.shown shelf.old) (S.shown shelf.new)
         (O.shown out.old) (O.shown out.new) result }
@@ -51,6 +53,8 @@ fn perform<R: Threads + Sync, S: Shelf, O: Sink, G: Gate>(
             workers,
         } => audit(rt, alloc, file, cert, *workers, shelf, out, gate),
         Task::Check { file, cert } => check(alloc, file, cert, shelf, out),
+        Task::Gen(workload) => generate(alloc, *workload, out),
+        Task::Trial { workload, workers } => trial(rt, alloc, *workload, *workers, out, gate),
     }
 }
 
@@ -60,6 +64,10 @@ fn perform<R: Threads + Sync, S: Shelf, O: Sink, G: Gate>(
 ///   said), the certificate is written to OUT, and then the report to `out`.
 /// - `check FILE CERT`: the certificate in CERT is checked against the history in FILE, and `good` or the first key that
 ///   isn't is written to `out`.
+/// - `gen SEED OPS KEYS`: the generated history of OPS operations on KEYS keys is written to `out`. It is the same for
+///   the same three numbers.
+/// - `trial SEED OPS KEYS [--workers N]`: that history is judged, and the last line of the report on it is written to
+///   `out`.
 ///
 /// Files are read from `shelf`, at most 67,108,864 bytes of a history and 268,435,456 of a certificate. It must not be
 /// writing a file. All text is made before the first output: OUT, what it held is lost, and then `out`. The gate is
@@ -76,6 +84,8 @@ fn perform<R: Threads + Sync, S: Shelf, O: Sink, G: Gate>(
 /// - 7: a write failed. OUT is as it was, or a part of its text; `out` gained a part of its own, from nothing to all.
 /// - 8: the file is longer than its limit; the line names it.
 /// - 10: want of memory.
+///
+/// `gen` and `trial` end with 0, 2, 7 or 10 alone, and open no file.
 ///
 /// After 2 to 6, 8 and 10 no file has changed, and `out` is as it was. Only the count of the failure that a status
 /// names rises, and that of `err`: a failed write to `err` changes no status.

@@ -23,7 +23,11 @@ number_of text = if is_number text then Some (decimal text) else None
 abbrev pub within : ℕ → ℕ → ℕ → Option ℕ
 within least most number = if nat_le least number && nat_le number most then Some number else None
 
+-- the number of a text, if it is from least to most
+abbrev pub number_within : ℕ → ℕ → Text → Option ℕ
+number_within least most text = option_and_then (within least most) (number_of text)
+
 -- the number of workers: 1 where the words say none, and else 1 to 64
 abbrev pub workers_of : Option Text → Option ℕ
 workers_of None = Some 1
-workers_of (Some text) = option_and_then (within 1 64) (number_of text)
+workers_of (Some text) = number_within 1 64 text

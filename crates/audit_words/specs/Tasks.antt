@@ -1,12 +1,13 @@
 -- What the words of a command line ask for.
-use Rattle.std.specs.Prelude.{ℕ, ◌&&◌, if◌then◌else◌, List, [], ◌∷◌, Option, Some, None, codes}
+use Rattle.std.specs.Prelude.{ℕ, ◌&&◌, if◌then◌else◌, List, [], ◌∷◌, Option, Some, None, option_map, codes}
 use Rattle.std.specs.Str.{bytes_eq}
 use Rattle.clap.specs.Words.{Row, Text, all_of, first_of, fault_of, matches_of}
 use Rattle.clap.specs.Walk.{is_empty}
 use Rattle.audit_words.specs.declared.Task.{Task}
-use Rattle.audit_words.specs.declared.Task.TheVariants.{Audit, Check}
+use Rattle.audit_words.specs.declared.Task.TheVariants.{Audit, Check, Gen, Trial}
+use Rattle.audit_words.specs.declared.Workload.{Workload}
 use Rattle.audit_words.specs.Line.{command_line, gives_only}
-use Rattle.audit_words.specs.Numbers.{workers_of}
+use Rattle.audit_words.specs.Numbers.{number_within, workers_of}
 use Rattle.audit_words.specs.Files.{is_name, are_two_names}
 
 -- one file, beside it the certificate's where it is given, and a number of workers
@@ -29,12 +30,42 @@ check_with _ = None
 abbrev pub check_of : List Row → Option Task
 check_of rows = check_with (all_of (codes "args") rows)
 
+-- a seed, a number of operations and one of keys
+abbrev pub workload_with : Option ℕ → Option ℕ → Option ℕ → Option Workload
+workload_with (Some seed) (Some ops) (Some keys) = Some (record { seed = seed; ops = ops; keys = keys })
+workload_with _ _ _ = None
+
+-- three words: `SEED OPS KEYS`
+abbrev pub workload_in : Option (List Text) → Option Workload
+workload_in (Some (seed ∷ ops ∷ keys ∷ [])) =
+    workload_with (number_within 0 18446744073709551615 seed) (number_within 1 1000000 ops) (number_within 1 100000 keys)
+workload_in _ = None
+
+-- the settings of a generated history
+abbrev pub workload_of : List Row → Option Workload
+workload_of rows = workload_in (all_of (codes "args") rows)
+
+-- `gen SEED OPS KEYS`
+abbrev pub gen_of : List Row → Option Task
+gen_of rows = option_map Gen (workload_of rows)
+
+-- such settings, and a number of workers
+abbrev pub trial_with : Option Workload → Option ℕ → Option Task
+trial_with (Some workload) (Some workers) = Some (Trial workload workers)
+trial_with _ _ = None
+
+-- `trial SEED OPS KEYS [--workers N]`
+abbrev pub trial_of : List Row → Option Task
+trial_of rows = trial_with (workload_of rows) (workers_of (first_of (codes "workers") rows))
+
 -- by the mode, which says the options that may be given
 abbrev pub task_by : Option Text → List Row → Option Task
 task_by None rows = None
 task_by (Some mode) rows =
     if bytes_eq mode (codes "audit") && gives_only (codes "cert" ∷ codes "workers" ∷ []) rows then audit_of rows
     else if bytes_eq mode (codes "check") && gives_only [] rows then check_of rows
+    else if bytes_eq mode (codes "gen") && gives_only [] rows then gen_of rows
+    else if bytes_eq mode (codes "trial") && gives_only (codes "workers" ∷ []) rows then trial_of rows
     else None
 
 -- what the entries of a command line ask for

@@ -1,9 +1,9 @@
 //! Command lines worked by hand, as theorems: what the words ask for. The words of a line stand between blanks.
 
 ghost use Rattle.std.specs.Prelude.{◌≡◌, ◌∷◌, [], Some, None, codes};
-ghost use Rattle.audit_words.specs.declared.Task.TheVariants.{Audit, Check};
+ghost use Rattle.audit_words.specs.declared.Task.TheVariants.{Audit, Check, Gen, Trial};
 ghost use Rattle.audit_words.specs.Tasks.{task_of};
-ghost use Rattle.audit_words.specs.Examples.{asked_by};
+ghost use Rattle.audit_words.specs.Examples.{asked_by, workload};
 
 /// A file, and nothing else.
 pub fn modes_alone()
@@ -23,7 +23,7 @@ pub fn options_anywhere()
         ≡ Some (Audit (codes "h") (Some (codes "c")) 8) }
 {}
 
-/// A mode has to be there, and be one of the two.
+/// A mode has to be there, and be one of the four.
 pub fn wrong_modes()
     ensures no_word { task_of [] ≡ None }
     ensures empty { task_of ([] ∷ codes "h" ∷ []) ≡ None }
@@ -35,8 +35,6 @@ pub fn wrong_modes()
 
 /// Modes that are not there.
 pub fn later_modes()
-    ensures generate { asked_by (codes "gen 1 0 1") ≡ None }
-    ensures trial { asked_by (codes "trial 7 2000 1 --cert c") ≡ None }
     ensures bench { asked_by (codes "bench h h") ≡ None }
 {}
 
@@ -46,6 +44,36 @@ pub fn wrong_counts_of_files()
     ensures audit_two { asked_by (codes "audit h g") ≡ None }
     ensures check_one { asked_by (codes "check h") ≡ None }
     ensures check_three { asked_by (codes "check h c d") ≡ None }
+{}
+
+/// A generated history has a seed, a number of operations and one of keys.
+pub fn generated_histories()
+    ensures gen { asked_by (codes "gen 7 20000 50") ≡ Some (Gen (workload 7 20000 50)) }
+    ensures trial { asked_by (codes "trial 7 20000 50") ≡ Some (Trial (workload 7 20000 50) 1) }
+    ensures workers { asked_by (codes "trial 7 20000 50 --workers 8")
+        ≡ Some (Trial (workload 7 20000 50) 8) }
+    ensures least { asked_by (codes "gen 0 1 1") ≡ Some (Gen (workload 0 1 1)) }
+    ensures most { asked_by (codes "gen 18446744073709551615 1000000 100000")
+        ≡ Some (Gen (workload 18446744073709551615 1000000 100000)) }
+    ensures zeros { asked_by (codes "gen 00000000000000000007 020 01")
+        ≡ Some (Gen (workload 7 20 1)) }
+{}
+
+/// And its numbers are within their limits.
+pub fn wrong_generated_histories()
+    ensures seed_above { asked_by (codes "gen 18446744073709551616 1 1") ≡ None }
+    ensures too_many_digits { asked_by (codes "gen 000000000000000000001 1 1") ≡ None }
+    ensures no_operation { asked_by (codes "gen 1 0 1") ≡ None }
+    ensures operations_above { asked_by (codes "gen 1 1000001 1") ≡ None }
+    ensures no_key { asked_by (codes "gen 1 1 0") ≡ None }
+    ensures keys_above { asked_by (codes "gen 1 1 100001") ≡ None }
+    ensures no_number { asked_by (codes "gen one 1 1") ≡ None }
+    ensures two_words { asked_by (codes "gen 1 1") ≡ None }
+    ensures four_words { asked_by (codes "gen 1 1 1 1") ≡ None }
+    ensures gen_workers { asked_by (codes "gen 1 1 1 --workers 2") ≡ None }
+    ensures no_worker { asked_by (codes "trial 1 1 1 --workers 0") ≡ None }
+    ensures workers_above { asked_by (codes "trial 1 1 1 --workers 65") ≡ None }
+    ensures trial_cert { asked_by (codes "trial 7 2000 1 --cert c") ≡ None }
 {}
 
 /// No file's name is empty, and no two are the same.

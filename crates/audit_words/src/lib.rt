@@ -18,6 +18,17 @@ use stale_model::{Bytes, Memory};
 use std::alloc::Global;
 pub use word::Word;
 
+/// What history to generate: the same for the same numbers, everywhere.
+#[derive(Clone, Copy, Debug, PartialEq, Eq)]
+pub struct Workload {
+    /// What the words of the generator come from: any number of 64 bits.
+    pub seed: u64,
+    /// How many operations: 1 to 1,000,000.
+    pub ops: u32,
+    /// How many keys they choose from: 1 to 100,000.
+    pub keys: u32,
+}
+
 /// A command with its files and settings. A file's name is not empty, and no two of a command are the same.
 #[derive(Drop, Debug)]
 pub enum Task {
@@ -33,13 +44,22 @@ pub enum Task {
         file: Bytes,
         cert: Bytes,
     },
+    /// `gen SEED OPS KEYS`: write a generated history.
+    Gen(Workload),
+    /// `trial SEED OPS KEYS [--workers N]`: judge a generated history.
+    Trial {
+        workload: Workload,
+        /// How many workers judge: 1 to 64, and 1 where the words do not say.
+        workers: u32,
+    },
 }
 
 /// What the words of a command line, after the name of the program, ask for; nothing where they are wrong.
 ///
 /// Options may stand anywhere, as `--workers 2` or `--workers=2`; the word `--` ends them. An option that comes twice,
 /// that is unknown or shortened, that the mode does not take, or whose value begins with `-` after a blank is wrong.
-/// A number of workers has 1 to 20 digits.
+/// A number has 1 to 20 digits and is within its limits: the number of workers, and SEED (at most 2^64 - 1), OPS (1 to
+/// 1,000,000) and KEYS (1 to 100,000).
 ///
 /// # Errors
 /// `Memory` may come at any time. It is never taken for wrong words.

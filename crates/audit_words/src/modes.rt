@@ -2,12 +2,12 @@
 
 ghost use Rattle.std.specs.Prelude.{◌≡◌, IfOk};
 ghost use Rattle.clap.specs.Words.{found_of, rows_of};
-ghost use Rattle.audit_words.specs.Tasks.{audit_of, check_of, task_in};
+ghost use Rattle.audit_words.specs.Tasks.{audit_of, check_of, workload_of, gen_of, trial_of, task_in};
 
-use crate::Task;
+use crate::{Task, Workload};
 use crate::files::{are_two_names, is_name};
 use crate::line::{gives_only, value_in, values_in};
-use crate::number::workers_of;
+use crate::number::{number_within, workers_of};
 use clap::ArgMatches;
 use stale_model::{Bytes, Memory};
 use std::alloc::Global;
@@ -50,6 +50,36 @@ fn check_of(alloc: Global, matches: &ArgMatches) -> Result<Option<Task>, Memory>
     Ok(Some(Task::Check { file, cert }))
 }
 
+// The settings of a generated history: a seed, a number of operations and one of keys.
+fn workload_of(matches: &ArgMatches) -> Option<Workload>
+    ensures { result ≡ workload_of (rows_of (found_of matches.now)) }
+{
+    let Some([seed, ops, keys]) = values_in(matches, "args") else {
+        return None;
+    };
+    let seed = number_within(seed, 0, u64::MAX)?;
+    let ops = number_within(ops, 1, 1_000_000)? as u32;
+    let keys = number_within(keys, 1, 100_000)? as u32;
+    Some(Workload { seed, ops, keys })
+}
+
+// `gen SEED OPS KEYS`
+fn gen_of(matches: &ArgMatches) -> Option<Task>
+    ensures { result ≡ gen_of (rows_of (found_of matches.now)) }
+{
+    let workload = workload_of(matches)?;
+    Some(Task::Gen(workload))
+}
+
+// `trial SEED OPS KEYS [--workers N]`
+fn trial_of(matches: &ArgMatches) -> Option<Task>
+    ensures { result ≡ trial_of (rows_of (found_of matches.now)) }
+{
+    let workload = workload_of(matches)?;
+    let workers = workers_of(value_in(matches, "workers"))?;
+    Some(Task::Trial { workload, workers })
+}
+
 /// What the matches ask for, by the mode.
 pub(crate) fn task_in(alloc: Global, matches: &ArgMatches) -> Result<Option<Task>, Memory>
     ensures { IfOk result (λ task. task ≡ task_in (rows_of (found_of matches.now))) }
@@ -57,6 +87,8 @@ pub(crate) fn task_in(alloc: Global, matches: &ArgMatches) -> Result<Option<Task
     match value_in(matches, "mode") {
         Some("audit") if gives_only(matches, &["cert", "workers"]) => audit_of(alloc, matches),
         Some("check") if gives_only(matches, &[]) => check_of(alloc, matches),
+        Some("gen") if gives_only(matches, &[]) => Ok(gen_of(matches)),
+        Some("trial") if gives_only(matches, &["workers"]) => Ok(trial_of(matches)),
         _ => Ok(None),
     }
 }

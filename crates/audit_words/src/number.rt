@@ -1,13 +1,13 @@
 //! Numbers in words.
 
-ghost use Rattle.std.specs.Prelude.{◌≡◌, option_map};
-ghost use Rattle.audit_words.specs.Numbers.{number_of, workers_of};
+ghost use Rattle.std.specs.Prelude.{◌≡◌, ◌≤◌, IfSome, option_map};
+ghost use Rattle.audit_words.specs.Numbers.{number_of, number_within, workers_of};
 
 // The greatest number of digits.
 const MOST_DIGITS: usize = 20;
 
 // The greatest number of workers.
-const MOST_WORKERS: u128 = 64;
+const MOST_WORKERS: u64 = 64;
 
 // The number of a text of 1 to 20 digits.
 fn number_of(text: &[u8]) -> Option<u128>
@@ -26,6 +26,19 @@ fn number_of(text: &[u8]) -> Option<u128>
     Some(number)
 }
 
+/// The number of a text of 1 to 20 digits, if it is from `least` to `most`.
+pub(crate) fn number_within(text: &str, least: u64, most: u64) -> Option<u64>
+    ensures value { result ≡ number_within least most text.now }
+    ensures within { IfSome result (λ number. (least ≤ number) × (number ≤ most)) }
+{
+    let number = number_of(text.as_bytes())?;
+    if u128::from(least) <= number && number <= u128::from(most) {
+        Some(number as u64)
+    } else {
+        None
+    }
+}
+
 /// The number of workers that a text says; 1 where there is no text.
 pub(crate) fn workers_of(text: Option<&str>) -> Option<u32>
     ensures { result ≡ workers_of (option_map (λ text. text.now) text.entry) }
@@ -33,10 +46,6 @@ pub(crate) fn workers_of(text: Option<&str>) -> Option<u32>
     let Some(text) = text else {
         return Some(1);
     };
-    let number = number_of(text.as_bytes())?;
-    if 1 <= number && number <= MOST_WORKERS {
-        Some(number as u32)
-    } else {
-        None
-    }
+    let workers = number_within(text, 1, MOST_WORKERS)?;
+    Some(workers as u32)
 }

@@ -36,6 +36,16 @@ fn gives_tasks(rt: HostRuntime) -> Result<(), Fail> {
     };
     assert_eq!(rt; file.as_slice(), b"h".as_slice());
     assert_eq!(rt; cert.as_slice(), b"c".as_slice());
+    let words = words_of(rt.alloc(), "trial 7 20 3 --workers 2")?;
+    let Some(Task::Trial { workload, workers }) = task_of(rt.alloc(), &words)? else {
+        return Err(Fail::new("no trial"));
+    };
+    let wanted = Workload {
+        seed: 7,
+        ops: 20,
+        keys: 3,
+    };
+    assert!(rt; workload == wanted && workers == 2);
     let words = words_of(rt.alloc(), "audit h --workers 0")?;
     assert!(rt; task_of(rt.alloc(), &words)?.is_none());
     Ok(())

@@ -52,6 +52,14 @@ impl<'a> Row<'a> {
         }
     }
 
+    /// These words, which name no file, where no call fails.
+    pub fn words(shows: &'a str, words: &'a [&'a str], out: &'a str) -> Row<'a> {
+        Row {
+            words,
+            ..Row::audit(shows, b"no file is opened", out)
+        }
+    }
+
     /// `audit h`, where no call fails, that is refused with this status and line.
     pub fn refused(shows: &'a str, history: &'a [u8], status: u8, err: &'a str) -> Row<'a> {
         Row {
@@ -255,6 +263,23 @@ pub fn run_then_check<R: Threads + Sync + Abort + AllocGlobal>(
         panic!(rt; "no certificate");
     };
     run_row(rt, &Row::check(row.shows, row.history, cert, 0, "good\n"))
+}
+
+/// What the output gains by a row with status 0.
+pub fn output_of<R: Threads + Sync + Abort + AllocGlobal>(
+    rt: &R,
+    row: &Row,
+) -> Result<Vec<u8>, AllocError> {
+    let alloc = rt.alloc();
+    let words = words_of(alloc, row.words)?;
+    let mut shelf = shelf_of(alloc, row)?;
+    let mut out = sink_of(alloc, &[])?;
+    let mut err = sink_of(alloc, &[])?;
+    let status = run_offline(
+        rt, alloc, &words, &mut shelf, &mut out, &mut err, &OpenGate,
+    );
+    assert!(rt; status == 0);
+    Vec::from_slice(alloc, out.written())
 }
 
 /// Audits a history past a gate, where no call fails, and gives the status.

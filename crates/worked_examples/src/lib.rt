@@ -7,6 +7,8 @@ mod certificates;
 #[cfg(test)]
 mod checking;
 #[cfg(test)]
+mod generated;
+#[cfg(test)]
 mod harness;
 #[cfg(test)]
 mod judgements;
