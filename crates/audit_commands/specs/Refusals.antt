@@ -1,5 +1,5 @@
 -- Definitions that serve the code alone: the refusals of a command, what shows each, and what is said of it.
-use Rattle.std.specs.Prelude.{◌≡◌, ◌≢◌, ◌⊎◌, ⊤, ℕ, ◌≤◌, List, length, Option, Some, Ok, Err, Result, IfOk, IfErr}
+use Rattle.std.specs.Prelude.{◌≡◌, ◌≢◌, ◌⊎◌, ⊤, ℕ, ◌≤◌, List, length, Option, Some, None, Ok, Err, Result, IfOk, IfErr}
 use Rattle.stale_model.specs.declared.History.{History}
 use Rattle.stale_model.specs.declared.Verdict.{Verdict}
 use Rattle.history_csv.specs.Header.{IsColumn}

@@ -17,6 +17,7 @@ use cert_text::write_cert;
 use stale_model::{Bytes, History, Verdict};
 use staleness_report::report;
 use std::alloc::Global;
+use std::mem::forget;
 use std::thread::Threads;
 
 // Writes the certificate to the file of this name, where one is named. Its text is made before any of it is written.
@@ -80,6 +81,10 @@ pub(crate) fn audit<R: Threads + Sync, S: Shelf, O: Sink, G: Gate>(
 {
     let history = history_in(alloc, shelf, file.as_slice())?;
     let verdicts = judge_all(rt, alloc, &history, workers, gate)?;
-    write_audit(alloc, &history, verdicts.as_slice(), cert, shelf, out)?;
+    let written = write_audit(alloc, &history, verdicts.as_slice(), cert, shelf, out);
+    // The process ends here, so nothing is taken apart.
+    forget(history);
+    forget(verdicts);
+    written?;
     Ok(Status::Done)
 }

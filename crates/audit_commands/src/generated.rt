@@ -19,6 +19,7 @@ use history_gen::gen_history;
 use stale_model::{Bytes, History, Memory};
 use staleness_report::totals;
 use std::alloc::Global;
+use std::mem::forget;
 use std::thread::Threads;
 
 // The text of the generated history.
@@ -77,6 +78,9 @@ pub(crate) fn trial<R: Threads + Sync, O: Sink, G: Gate>(
     let history = generated_history(alloc, workload)?;
     let verdicts = judge_all(rt, alloc, &history, workers, gate)?;
     let line = totals(alloc, &history, verdicts.as_slice())?;
+    // The process ends after the line, so nothing is taken apart.
+    forget(history);
+    forget(verdicts);
     print(out, line.as_slice())?;
     Ok(Status::Done)
 }

@@ -228,6 +228,31 @@ fn third_late_read_of_pairs(rt: HostRuntime) -> Result<(), Fail> {
     Ok(())
 }
 
+// The first two candidates, the latest write, and the latest reads.
+fn ends_of(lists: &Lists) -> ([Option<u32>; 3], (Option<u32>, Option<u32>)) {
+    let first = lists.first_candidate();
+    let second = match first {
+        Some(first) => lists.next_candidate(first),
+        None => None,
+    };
+    ([first, second, lists.late_write()], lists.late_reads())
+}
+
+#[test]
+fn a_place_taken_and_put_back(rt: HostRuntime) -> Result<(), Fail> {
+    let mut lists = Lists::prepare(rt.alloc(), &stale_read())?;
+    let whole = ([Some(3), Some(2), Some(3)], (Some(1), None));
+    assert_eq!(rt; ends_of(&lists), whole);
+    let Some(first) = lists.first_candidate() else {
+        panic!(rt; "no candidate")
+    };
+    lists.place(first);
+    assert_eq!(rt; ends_of(&lists), ([Some(2), Some(1), Some(2)], (Some(1), None)));
+    lists.undo();
+    assert_eq!(rt; ends_of(&lists), whole);
+    Ok(())
+}
+
 // The answer for pairs.
 fn answer_to_pairs(alloc: Global, count: u32) -> Result<Two, Memory> {
     let Ok(clusters) = pairs_in_turn(alloc, count) else {
