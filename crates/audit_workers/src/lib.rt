@@ -1,7 +1,7 @@
-//! Judges the keys of a history.
+//! Judges the keys of a history, by as many workers as are asked for.
 #![tactic(auto)]
 
-ghost use Rattle.std.specs.Prelude.{◌≤◌, IfOk};
+ghost use Rattle.std.specs.Prelude.{◌≡◌, ◌<◌, ◌≤◌, length, IfOk, OnErr};
 ghost use Rattle.stale_model.specs.Valid.{IsValidKey, IsValidHistory};
 ghost use Rattle.stale_model.specs.Operations.{operations};
 ghost use Rattle.stale_model.specs.Faults.{IsClearKey};
@@ -9,15 +9,26 @@ ghost use Rattle.stale_model.specs.Clusters.{AreClusters};
 ghost use Rattle.stale_model.specs.PrintedVerdicts.{IsPrintedTwo, IsPrintedVerdict, ArePrintedVerdicts, IsPrintedJudgement};
 ghost use Rattle.stale_model.specs.Truth.{EachKeyHas, IsTrueOf};
 ghost use Rattle.stale_model.specs.Shown.{IsShown};
+ghost use Rattle.audit_workers.specs.Claims.{AreClaims, DrewClaims, DrewMore};
+ghost use Rattle.audit_workers.specs.Calls.{KeysAreClaimedOnce};
 ghost use Rattle.audit_workers.specs.Laws.{VerdictExists, VerdictIsOne, VerdictsAreOne, VerdictsAreShown, VerdictsAreTrue, InfiniteIsExact, TwoTheorem, YesIsExact};
 
+mod claims;
+#[cfg(test)]
+mod tests;
+mod workers;
+
 use audit_ports::Gate;
+pub use claims::Claim;
+use claims::claim_keys;
 use clusters::{Sorted, sort_key};
 use delta_score::{least_delta, op_order};
 use lbt_epochs::two_atomic;
 use stale_model::{Cluster, History, Judgement, KeyOps, List, Memory, Two, TwoPart, Verdict};
 use std::alloc::Global;
 use std::thread::Threads;
+use ticket_clock::{Clock, Seat};
+use workers::judge_by_workers;
 
 // Whether a clear key with these clusters is 2-atomic.
 fn two_part(alloc: Global, key: &KeyOps, clusters: &[Cluster]) -> Result<TwoPart, Memory>
@@ -80,25 +91,35 @@ pub fn judge_key(alloc: Global, key: &KeyOps) -> Result<Verdict, Memory>
     verdict_of(alloc, key)
 }
 
-// The verdicts of the keys, one after the other.
-fn judge_each<G: Gate>(alloc: Global, history: &History, gate: &G) -> Result<List<Verdict>, Memory>
-    requires { IsValidHistory history.now }
-    ensures { IfOk result (ArePrintedVerdicts history.now.keys) }
+/// What one worker does: it draws tickets, and judges the key of each, until one is above the
+/// number of keys. Ticket t claims key t. So where workers draw from one clock, each key is judged
+/// by one of them. Before a key is judged the gate is entered with the key's place, counted from 0,
+/// and after that it is left. The error says that memory ran out, and nothing is claimed then.
+pub fn judge_claims<G: Gate>(
+    alloc: Global,
+    history: &History,
+    clock: &Clock,
+    seat: &mut Seat,
+    gate: &G,
+) -> Result<List<Claim>, Memory>
+    requires valid { IsValidHistory history.now }
+    requires own { seat.old.clock ≡ clock.now.id }
+    requires left { length history.now.keys < seat.old.left }
+    ensures truth { IfOk result (AreClaims IsTrueOf history.now.keys) }
+    ensures shown { IfOk result (AreClaims IsShown history.now.keys) }
+    ensures printed { IfOk result (AreClaims IsPrintedVerdict history.now.keys) }
+    ensures drawn { IfOk result (λ claims.
+        DrewClaims (length history.now.keys) claims seat.old seat.new) }
+    ensures err { OnErr result (DrewMore seat.old seat.new) }
 {
-    let mut verdicts = Vec::new(alloc);
-    for (place, key) in history.keys.as_slice().iter().enumerate() {
-        let piece = place as u32;
-        gate.enter(piece);
-        let verdict = verdict_of(alloc, key);
-        gate.leave(piece);
-        verdicts.push(verdict?).map_err(|_| Memory)?;
-    }
-    Ok(List::from_vec(verdicts))
+    claim_keys(alloc, history, clock, seat, gate)
 }
 
 /// The verdict of each key of a valid history, in the order of the keys, the same for every number
-/// of workers from 1 to 64. Before a key is judged the gate is entered with the key's place, counted
-/// from 0, and after that it is left. The error says that memory ran out.
+/// of workers from 1 to 64. Each key is judged by one worker; no more workers start than there are
+/// keys, and one works in the caller's thread. Before a key is judged the gate is entered with the
+/// key's place, counted from 0, and after that it is left. The error says that memory ran out, and
+/// it comes after all workers have ended.
 pub fn judge_all<R: Threads + Sync, G: Gate>(
     rt: &R,
     alloc: Global,
@@ -113,7 +134,7 @@ pub fn judge_all<R: Threads + Sync, G: Gate>(
     ensures shown { IfOk result (EachKeyHas IsShown history.now.keys) }
     ensures printed { IfOk result (ArePrintedVerdicts history.now.keys) }
 {
-    judge_each(alloc, history, gate)
+    judge_by_workers(rt, alloc, history, workers, gate)
 }
 
 /// Each valid key has a verdict that is printed.
@@ -155,4 +176,11 @@ pub fn two_theorem()
 /// [`two_atomic_at`](lbt_epochs::two_atomic_at) answers yes exactly where there is such an order.
 pub fn yes_is_exact()
     ensures { YesIsExact }
+{}
+
+/// Where calls of [`judge_claims`] on one history, at least one and none refused, drew the tickets
+/// from 1 on, each once, and no others were drawn, their claims together hold each key once. A
+/// [`look`](ticket_clock::Clock::look) tells this of the tickets, where the seats were joined.
+pub fn keys_are_claimed_once()
+    ensures { KeysAreClaimedOnce }
 {}

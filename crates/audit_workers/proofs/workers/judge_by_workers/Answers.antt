@@ -1,0 +1,14 @@
+use Rattle.std.proofs.Common.{arith, ap, sym, ◌∙◌, ◌≡◌, ◌+◌, ◌*◌, ◌<◌, ℕ, List, length}
+use Rattle.stale_model.specs.declared.KeyOps.{KeyOps}
+use Rattle.audit_workers.proofs.Filling.{all_filled}
+use Rattle.audit_workers.proofs.workers.judge_by_workers.Goals as goal
+
+pub returns : goal.returns
+returns g c =
+    let gathered = c.in_ok-gather.ensures in
+    let keys = c.args.history.now.keys in
+    let as_many : length c.in_ok-done.done.items ≡ c.useful-workers.result = c.in_ok-done.ensures.many ∙ c.in_ok-seats.ensures.seats.1 in
+    let some_call : 0 < length c.in_ok-done.done.items = omega (arith, as_many, c.useful-workers.ensures.0) in
+    let full = gathered.left ∙ ap (λ (n : ℕ). n * (length keys + 1)) as_many
+    ∙ sym (c.in_ok-clock.ensures.0 ∙ ap (λ (ks : List KeyOps). c.useful-workers.result * (length ks + 1)) c.as_slice.ensures) in
+    rw c.from_vec.ensures (all_filled keys _ c.gather.new.whole.drawn c.gather.new.verdicts.items some_call (c.look.ensures.all full).0 gathered.gathered)
