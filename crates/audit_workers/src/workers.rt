@@ -96,7 +96,7 @@ fn worked<R: Threads + Sync, G: Gate>(
 fn places(alloc: Global, keys: u64) -> Result<Vec<Verdict>, Memory>
     ensures { IfOk result (λ verdicts. length verdicts.items ≡ keys) }
 {
-    let mut verdicts = Vec::new(alloc);
+    let mut verdicts = Vec::with_capacity(alloc, keys as usize).map_err(|_| Memory)?;
     for _key in 0..keys {
         verdicts
             .push(Verdict::Infinite { rec: 0 })
@@ -113,7 +113,6 @@ fn put(history: &History, claim: Claim, verdicts: &mut Vec<Verdict>)
     ensures filled { (claimed : List ℕ) → IsFilled history.now.keys claimed verdicts.old.items
         → IsFilled history.now.keys (claimed ++ claim.key ∷ []) verdicts.new.items }
 {
-    let _history = history;
     verdicts[claim.key as usize - 1] = claim.verdict;
 }
 
