@@ -55,8 +55,7 @@ impl Clock {
         requires own { seat.old.clock ≡ self.now.id }
         requires left { 1 ≤ seat.old.left }
         ensures ticket { (1 ≤ result) × (seat.old.seen ≤ result) }
-        ensures seat { seat.new ≡ record {
-          clock = seat.old.clock;
+        ensures seat { seat.new ≡ record seat.old {
           drawn = seat.old.drawn ++ result ∷ [];
           left = seat.old.left - 1;
           seen = result + 1;
@@ -71,12 +70,7 @@ impl Clock {
     pub fn look(&self, seat: &mut Seat) -> u64
         requires own { seat.old.clock ≡ self.now.id }
         ensures seen { seat.old.seen ≤ result }
-        ensures seat { seat.new ≡ record {
-          clock = seat.old.clock;
-          drawn = seat.old.drawn;
-          left = seat.old.left;
-          seen = result;
-        } }
+        ensures seat { seat.new ≡ record seat.old { seen = result } }
         ensures once { HasNoneTwice seat.old.drawn }
         ensures all { length seat.old.drawn + seat.old.left ≡ self.now.budget
             → IsOneToLength seat.old.drawn × (result ≡ length seat.old.drawn + 1) }
@@ -89,12 +83,7 @@ impl Clock {
         requires own { seat.old.clock ≡ self.now.id }
         requires left { left ≤ seat.old.left }
         ensures new { IsFresh self.now left seat.old.seen result }
-        ensures seat { seat.new ≡ record {
-          clock = seat.old.clock;
-          drawn = seat.old.drawn;
-          left = seat.old.left - left;
-          seen = seat.old.seen;
-        } }
+        ensures seat { seat.new ≡ record seat.old { left = seat.old.left - left } }
     {
         cut::<Brand>(self, seat, left)
     }
@@ -104,8 +93,7 @@ impl Clock {
     pub fn join(&self, seat: &mut Seat, other: Seat)
         requires own { seat.old.clock ≡ self.now.id }
         requires other { other.clock ≡ self.now.id }
-        ensures seat { seat.new ≡ record {
-          clock = seat.old.clock;
+        ensures seat { seat.new ≡ record seat.old {
           drawn = seat.old.drawn ++ other.drawn;
           left = seat.old.left + other.left;
           seen = max seat.old.seen other.seen;
@@ -122,12 +110,7 @@ impl Clock {
         requires own { seat.old.clock ≡ self.now.id }
         ensures past { t < seat.new.seen }
         ensures seen { seat.old.seen ≤ seat.new.seen }
-        ensures seat { seat.new ≡ record {
-          clock = seat.old.clock;
-          drawn = seat.old.drawn;
-          left = seat.old.left;
-          seen = seat.new.seen;
-        } }
+        ensures seat { seat.new ≡ record seat.old { seen = seat.new.seen } }
     {
         for _ in rt.forever() {
             if self.look(seat) > t {
@@ -144,12 +127,7 @@ fn look_at<G: Picked>(clock: &Clock, seat: &mut Seat) -> u64
     requires own { seat.old.clock ≡ clock.now.id }
     requires budget { clock.now.budget ≡ G.number }
     ensures seen { seat.old.seen ≤ result }
-    ensures seat { seat.new ≡ record {
-      clock = seat.old.clock;
-      drawn = seat.old.drawn;
-      left = seat.old.left;
-      seen = result;
-    } }
+    ensures seat { seat.new ≡ record seat.old { seen = result } }
     ensures once { HasNoneTwice seat.old.drawn }
     ensures all { length seat.old.drawn + seat.old.left ≡ G.number
         → IsOneToLength seat.old.drawn × (result ≡ length seat.old.drawn + 1) }
@@ -162,12 +140,7 @@ fn cut<G: Picked>(clock: &Clock, seat: &mut Seat, left: u64) -> Seat
     requires own { seat.old.clock ≡ clock.now.id }
     requires left { (left ≡ G.number) × (G.number ≤ seat.old.left) }
     ensures new { IsFresh clock.now G.number seat.old.seen result }
-    ensures seat { seat.new ≡ record {
-      clock = seat.old.clock;
-      drawn = seat.old.drawn;
-      left = seat.old.left - G.number;
-      seen = seat.old.seen;
-    } }
+    ensures seat { seat.new ≡ record seat.old { left = seat.old.left - G.number } }
 {
     Seat {
         at: clock.table.shared.split_seat::<Cut<G>>(&mut seat.at),
