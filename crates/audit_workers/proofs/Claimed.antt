@@ -64,7 +64,7 @@ keys_are_claimed_once keys (call ∷ calls) drawn some_call holds counted key nu
 module _ (before at after : SeatView) (claims : List Claim) (ticket : ℕ)
     (drawn : at.drawn ≡ before.drawn ++ keys_of claims)
     (left : at.left + length claims ≡ before.left)
-    (draw : after ≡ record { clock = at.clock; drawn = at.drawn ++ ticket ∷ []; left = at.left - 1; seen = ticket + 1 }) where
+    (draw : after ≡ record at { drawn = at.drawn ++ ticket ∷ []; left = at.left - 1; seen = ticket + 1 }) where
   -- after one draw more, the tickets are the keys of the claims so far, and this one
   drawn_one : after.drawn ≡ before.drawn ++ keys_of claims ++ ticket ∷ []
   drawn_one = ap (λ (s : SeatView). s.drawn) draw ∙ ap (λ (l : List ℕ). l ++ ticket ∷ []) drawn

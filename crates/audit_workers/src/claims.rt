@@ -2,6 +2,8 @@
 ghost use Rattle.std.specs.Prelude.{◌≡◌, ◌<◌, ◌≤◌, length, IfOk, OnErr};
 ghost use Rattle.stale_model.specs.Valid.{IsValidHistory};
 ghost use Rattle.stale_model.specs.PrintedVerdicts.{IsPrintedVerdict};
+ghost use Rattle.stale_model.specs.Truth.{IsTrueOf};
+ghost use Rattle.stale_model.specs.Shown.{IsShown};
 ghost use Rattle.audit_workers.specs.Claims.{IsClaim, AreClaims, DrewClaims, DrewMore};
 
 use crate::verdict_of;
@@ -39,9 +41,11 @@ fn claim_key<G: Gate>(
     })
 }
 
-// Draws tickets, and claims the key of each, until one is above the number of keys. That comes
-// after as many draws as there are keys and one more at the latest, since a seat's tickets rise.
-pub(crate) fn claim_keys<G: Gate>(
+/// What one worker does: it draws tickets, and judges the key of each, until one is above the
+/// number of keys. Ticket t claims key t; no ticket is given twice, so no two workers claim one key.
+/// Before a key is judged the gate is entered with the key's place, counted from 0, and after that
+/// it is left. The error says that memory ran out, and nothing is claimed then.
+pub fn judge_claims<G: Gate>(
     alloc: Global,
     history: &History,
     clock: &Clock,
@@ -51,13 +55,16 @@ pub(crate) fn claim_keys<G: Gate>(
     requires valid { IsValidHistory history.now }
     requires own { seat.old.clock ≡ clock.now.id }
     requires left { length history.now.keys < seat.old.left }
-    ensures claims { IfOk result (AreClaims IsPrintedVerdict history.now.keys) }
+    ensures truth { IfOk result (AreClaims IsTrueOf history.now.keys) }
+    ensures shown { IfOk result (AreClaims IsShown history.now.keys) }
+    ensures printed { IfOk result (AreClaims IsPrintedVerdict history.now.keys) }
     ensures drawn { IfOk result (λ claims.
         DrewClaims (length history.now.keys) claims seat.old seat.new) }
     ensures err { OnErr result (DrewMore seat.old seat.new) }
 {
     let keys = history.keys.as_slice().len() as u64;
     let mut claims = Vec::new(alloc);
+    // Tickets of one seat rise, so after one draw more than there are keys one is above.
     for _turn in 0..keys + 1 {
         let ticket = clock.draw(seat);
         if ticket > keys {

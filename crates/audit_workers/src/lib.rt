@@ -1,15 +1,14 @@
 //! Judges the keys of a history, by as many workers as are asked for.
 #![tactic(auto)]
 
-ghost use Rattle.std.specs.Prelude.{◌≡◌, ◌<◌, ◌≤◌, length, IfOk, OnErr};
-ghost use Rattle.stale_model.specs.Valid.{IsValidKey, IsValidHistory};
+ghost use Rattle.std.specs.Prelude.{IfOk};
+ghost use Rattle.stale_model.specs.Valid.{IsValidKey};
 ghost use Rattle.stale_model.specs.Operations.{operations};
 ghost use Rattle.stale_model.specs.Faults.{IsClearKey};
 ghost use Rattle.stale_model.specs.Clusters.{AreClusters};
-ghost use Rattle.stale_model.specs.PrintedVerdicts.{IsPrintedTwo, IsPrintedVerdict, ArePrintedVerdicts, IsPrintedJudgement};
-ghost use Rattle.stale_model.specs.Truth.{EachKeyHas, IsTrueOf};
+ghost use Rattle.stale_model.specs.PrintedVerdicts.{IsPrintedTwo, IsPrintedVerdict, IsPrintedJudgement};
+ghost use Rattle.stale_model.specs.Truth.{IsTrueOf};
 ghost use Rattle.stale_model.specs.Shown.{IsShown};
-ghost use Rattle.audit_workers.specs.Claims.{AreClaims, DrewClaims, DrewMore};
 ghost use Rattle.audit_workers.specs.Calls.{KeysAreClaimedOnce};
 ghost use Rattle.audit_workers.specs.Laws.{VerdictExists, VerdictIsOne, VerdictsAreOne, VerdictsAreShown, VerdictsAreTrue, InfiniteIsExact, TwoTheorem, YesIsExact};
 
@@ -18,17 +17,13 @@ mod claims;
 mod tests;
 mod workers;
 
-use audit_ports::Gate;
-pub use claims::Claim;
-use claims::claim_keys;
+pub use claims::{Claim, judge_claims};
 use clusters::{Sorted, sort_key};
 use delta_score::{least_delta, op_order};
 use lbt_epochs::two_atomic;
-use stale_model::{Cluster, History, Judgement, KeyOps, List, Memory, Two, TwoPart, Verdict};
+use stale_model::{Cluster, Judgement, KeyOps, Memory, Two, TwoPart, Verdict};
 use std::alloc::Global;
-use std::thread::Threads;
-use ticket_clock::{Clock, Seat};
-use workers::judge_by_workers;
+pub use workers::judge_all;
 
 // Whether a clear key with these clusters is 2-atomic.
 fn two_part(alloc: Global, key: &KeyOps, clusters: &[Cluster]) -> Result<TwoPart, Memory>
@@ -89,52 +84,6 @@ pub fn judge_key(alloc: Global, key: &KeyOps) -> Result<Verdict, Memory>
     ensures printed { IfOk result (IsPrintedVerdict (operations key.now)) }
 {
     verdict_of(alloc, key)
-}
-
-/// What one worker does: it draws tickets, and judges the key of each, until one is above the
-/// number of keys. Ticket t claims key t. So where workers draw from one clock, each key is judged
-/// by one of them. Before a key is judged the gate is entered with the key's place, counted from 0,
-/// and after that it is left. The error says that memory ran out, and nothing is claimed then.
-pub fn judge_claims<G: Gate>(
-    alloc: Global,
-    history: &History,
-    clock: &Clock,
-    seat: &mut Seat,
-    gate: &G,
-) -> Result<List<Claim>, Memory>
-    requires valid { IsValidHistory history.now }
-    requires own { seat.old.clock ≡ clock.now.id }
-    requires left { length history.now.keys < seat.old.left }
-    ensures truth { IfOk result (AreClaims IsTrueOf history.now.keys) }
-    ensures shown { IfOk result (AreClaims IsShown history.now.keys) }
-    ensures printed { IfOk result (AreClaims IsPrintedVerdict history.now.keys) }
-    ensures drawn { IfOk result (λ claims.
-        DrewClaims (length history.now.keys) claims seat.old seat.new) }
-    ensures err { OnErr result (DrewMore seat.old seat.new) }
-{
-    claim_keys(alloc, history, clock, seat, gate)
-}
-
-/// The verdict of each key of a valid history, in the order of the keys, the same for every number
-/// of workers from 1 to 64. Each key is judged by one worker; no more workers start than there are
-/// keys, and one works in the caller's thread. Before a key is judged the gate is entered with the
-/// key's place, counted from 0, and after that it is left. The error says that memory ran out, and
-/// it comes after all workers have ended.
-pub fn judge_all<R: Threads + Sync, G: Gate>(
-    rt: &R,
-    alloc: Global,
-    history: &History,
-    workers: u32,
-    gate: &G,
-) -> Result<List<Verdict>, Memory>
-    requires valid { IsValidHistory history.now }
-    requires some_worker { 1 ≤ workers }
-    requires few_workers { workers ≤ 64 }
-    ensures truth { IfOk result (EachKeyHas IsTrueOf history.now.keys) }
-    ensures shown { IfOk result (EachKeyHas IsShown history.now.keys) }
-    ensures printed { IfOk result (ArePrintedVerdicts history.now.keys) }
-{
-    judge_by_workers(rt, alloc, history, workers, gate)
 }
 
 /// Each valid key has a verdict that is printed.

@@ -4,32 +4,29 @@ ghost use Rattle.std.specs.List.Sorted.{IsStrictlyIncreasing};
 ghost use Rattle.stale_model.specs.Operations.{records_of};
 ghost use Rattle.stale_model.specs.Valid.{IsValidOp, IsValidKey, IsValidHistory};
 
-use super::*;
-use audit_ports::OpenGate;
-use stale_model::{Bytes, Kind, Op};
+use crate::{judge_all, judge_claims};
+use audit_ports::{Gate, OpenGate};
+use stale_model::{Bytes, History, INITIAL_WRITE, KeyOps, List, Memory, Op, Verdict};
+use std::alloc::Global;
 use std::sync::atomic::{AtomicU64, Ordering};
 use std::test::Fail;
 use std::thread;
+use ticket_clock::Clock;
 
 const FIRST: Op = Op {
     rec: 1,
-    client: 0,
-    kind: Kind::Write,
     value: 1,
     start: 1,
     finish: 2,
-    slack: 0,
+    ..INITIAL_WRITE
 };
 
 // Writes the value of the first once more.
 const AGAIN: Op = Op {
     rec: 2,
-    client: 0,
-    kind: Kind::Write,
-    value: 1,
     start: 3,
     finish: 4,
-    slack: 0,
+    ..FIRST
 };
 
 // A key of these operations, with one value.

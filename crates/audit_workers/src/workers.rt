@@ -2,10 +2,12 @@
 ghost use Rattle.std.specs.Prelude.{◌≡◌, ℕ, ◌+◌, ◌*◌, ◌<◌, ◌≤◌, List, [], ◌∷◌, ◌++◌, length, All, IfOk, OnOk};
 ghost use Rattle.stale_model.specs.Valid.{IsValidHistory};
 ghost use Rattle.stale_model.specs.PrintedVerdicts.{IsPrintedVerdict, ArePrintedVerdicts};
+ghost use Rattle.stale_model.specs.Truth.{EachKeyHas, IsTrueOf};
+ghost use Rattle.stale_model.specs.Shown.{IsShown};
 ghost use Rattle.audit_workers.specs.Claims.{IsClaim, AreClaims, keys_of};
 ghost use Rattle.audit_workers.specs.Workers.{IsReady, IsDone, IsFilled, IsGathered};
 
-use crate::claims::{Claim, claim_keys};
+use crate::claims::{Claim, judge_claims};
 use audit_ports::Gate;
 use stale_model::{History, List, Memory, Verdict};
 use std::alloc::Global;
@@ -57,7 +59,7 @@ fn work<G: Gate>(
     requires ready { IsReady clock.now (length history.now.keys) seat }
     ensures { IfOk result (λ done. IsDone clock.now history.now.keys done.0 done.1) }
 {
-    let claims = claim_keys(alloc, history, clock, &mut seat, gate)?;
+    let claims = judge_claims(alloc, history, clock, &mut seat, gate)?;
     Ok((seat, claims))
 }
 
@@ -179,8 +181,11 @@ fn gather(
     Ok(())
 }
 
-// The verdict of each key, judged by so many workers, but by no more than there are keys.
-pub(crate) fn judge_by_workers<R: Threads + Sync, G: Gate>(
+/// The verdict of each key of a valid history, in the order of the keys, the same for every number
+/// of workers from 1 to 64. The keys are judged in threads, by no more workers than there are keys.
+/// Before a key is judged the gate is entered with the key's place, counted from 0, and after that
+/// it is left. The error says that memory ran out, and it comes after all workers have ended.
+pub fn judge_all<R: Threads + Sync, G: Gate>(
     rt: &R,
     alloc: Global,
     history: &History,
@@ -188,8 +193,11 @@ pub(crate) fn judge_by_workers<R: Threads + Sync, G: Gate>(
     gate: &G,
 ) -> Result<List<Verdict>, Memory>
     requires valid { IsValidHistory history.now }
-    requires workers { (1 ≤ workers) × (workers ≤ 64) }
-    ensures { IfOk result (ArePrintedVerdicts history.now.keys) }
+    requires some_worker { 1 ≤ workers }
+    requires few_workers { workers ≤ 64 }
+    ensures truth { IfOk result (EachKeyHas IsTrueOf history.now.keys) }
+    ensures shown { IfOk result (EachKeyHas IsShown history.now.keys) }
+    ensures printed { IfOk result (ArePrintedVerdicts history.now.keys) }
 {
     let keys = history.keys.as_slice().len() as u64;
     let workers = useful(workers, keys);

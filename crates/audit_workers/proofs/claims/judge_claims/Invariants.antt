@@ -1,7 +1,7 @@
 use Rattle.std.proofs.Common.{◌≡◌, ◌+◌, ◌≤◌, ◌<◌, ◌++◌, length}
 use Rattle.stale_model.specs.PrintedVerdicts.{IsPrintedVerdict}
 use Rattle.audit_workers.specs.Claims.{AreClaims, keys_of}
-use Rattle.audit_workers.proofs.claims.claim_keys.Given as goal
+use Rattle.audit_workers.proofs.claims.judge_claims.Given as goal
 
 abbrev pub invariant-loop-turn : goal.invariant-loop-turn
 invariant-loop-turn g l = record {

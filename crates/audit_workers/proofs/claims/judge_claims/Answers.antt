@@ -2,9 +2,12 @@ use Rattle.std.proofs.Common.{rules, arith, ◌≡◌, ◌∷◌, ◌++◌, [], 
 use Rattle.std.specs.Prelude.{All}
 use Rattle.std.proofs.lemmas.List.Elements.{All-push}
 use Rattle.stale_model.specs.PrintedVerdicts.{IsPrintedVerdict}
+use Rattle.stale_model.specs.Truth.{IsTrueOf}
+use Rattle.stale_model.specs.Shown.{IsShown}
 use Rattle.audit_workers.specs.Claims.{IsClaim, keys_of}
-use Rattle.audit_workers.proofs.Claimed.{on_err, drew_one, drew_claim}
-use Rattle.audit_workers.proofs.claims.claim_keys.Goals as goal
+use Rattle.audit_workers.proofs.Truth.{verdicts_are_true, verdicts_are_shown}
+use Rattle.audit_workers.proofs.Claimed.{on_err, claims_have, drew_one, drew_claim}
+use Rattle.audit_workers.proofs.claims.judge_claims.Goals as goal
 
 pub returns-in_err-claim-clause-err : goal.returns-in_err-claim-clause-err
 returns-in_err-claim-clause-err g c =
@@ -42,3 +45,11 @@ loop-turn-preserved g c =
       rising = search rules;
       within = search rules;
     }
+
+pub returns-then-ticket-keys-clause-truth : goal.returns-then-ticket-keys-clause-truth
+returns-then-ticket-keys-clause-truth g c =
+    rw c.from_vec.ensures (claims_have IsTrueOf verdicts_are_true c.args.history.now.keys c.loop-turn.claims.items c.requires.valid.keys c.loop-turn.invariant.are)
+
+pub returns-then-ticket-keys-clause-shown : goal.returns-then-ticket-keys-clause-shown
+returns-then-ticket-keys-clause-shown g c =
+    rw c.from_vec.ensures (claims_have IsShown verdicts_are_shown c.args.history.now.keys c.loop-turn.claims.items c.requires.valid.keys c.loop-turn.invariant.are)
