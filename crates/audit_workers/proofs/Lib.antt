@@ -1,6 +1,7 @@
-pub mod Verdicts
 pub mod Truth
 pub mod One
 pub mod Clear
 pub mod Listed
 pub mod Theorem
+pub mod Claimed
+pub mod Filling

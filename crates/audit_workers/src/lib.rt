@@ -1,23 +1,29 @@
-//! Judges the keys of a history.
+//! Judges the keys of a history, by as many workers as are asked for.
 #![tactic(auto)]
 
-ghost use Rattle.std.specs.Prelude.{◌≤◌, IfOk};
-ghost use Rattle.stale_model.specs.Valid.{IsValidKey, IsValidHistory};
+ghost use Rattle.std.specs.Prelude.{IfOk};
+ghost use Rattle.stale_model.specs.Valid.{IsValidKey};
 ghost use Rattle.stale_model.specs.Operations.{operations};
 ghost use Rattle.stale_model.specs.Faults.{IsClearKey};
 ghost use Rattle.stale_model.specs.Clusters.{AreClusters};
-ghost use Rattle.stale_model.specs.PrintedVerdicts.{IsPrintedTwo, IsPrintedVerdict, ArePrintedVerdicts, IsPrintedJudgement};
-ghost use Rattle.stale_model.specs.Truth.{EachKeyHas, IsTrueOf};
+ghost use Rattle.stale_model.specs.PrintedVerdicts.{IsPrintedTwo, IsPrintedVerdict, IsPrintedJudgement};
+ghost use Rattle.stale_model.specs.Truth.{IsTrueOf};
 ghost use Rattle.stale_model.specs.Shown.{IsShown};
+ghost use Rattle.audit_workers.specs.Calls.{KeysAreClaimedOnce};
 ghost use Rattle.audit_workers.specs.Laws.{VerdictExists, VerdictIsOne, VerdictsAreOne, VerdictsAreShown, VerdictsAreTrue, InfiniteIsExact, TwoTheorem, YesIsExact};
 
-use audit_ports::Gate;
+mod claims;
+#[cfg(test)]
+mod tests;
+mod workers;
+
+pub use claims::{Claim, judge_claims};
 use clusters::{Sorted, sort_key};
 use delta_score::{least_delta, op_order};
 use lbt_epochs::two_atomic;
-use stale_model::{Cluster, History, Judgement, KeyOps, List, Memory, Two, TwoPart, Verdict};
+use stale_model::{Cluster, Judgement, KeyOps, Memory, Two, TwoPart, Verdict};
 use std::alloc::Global;
-use std::thread::Threads;
+pub use workers::judge_all;
 
 // Whether a clear key with these clusters is 2-atomic.
 fn two_part(alloc: Global, key: &KeyOps, clusters: &[Cluster]) -> Result<TwoPart, Memory>
@@ -80,42 +86,6 @@ pub fn judge_key(alloc: Global, key: &KeyOps) -> Result<Verdict, Memory>
     verdict_of(alloc, key)
 }
 
-// The verdicts of the keys, one after the other.
-fn judge_each<G: Gate>(alloc: Global, history: &History, gate: &G) -> Result<List<Verdict>, Memory>
-    requires { IsValidHistory history.now }
-    ensures { IfOk result (ArePrintedVerdicts history.now.keys) }
-{
-    let mut verdicts = Vec::new(alloc);
-    for (place, key) in history.keys.as_slice().iter().enumerate() {
-        let piece = place as u32;
-        gate.enter(piece);
-        let verdict = verdict_of(alloc, key);
-        gate.leave(piece);
-        verdicts.push(verdict?).map_err(|_| Memory)?;
-    }
-    Ok(List::from_vec(verdicts))
-}
-
-/// The verdict of each key of a valid history, in the order of the keys, the same for every number
-/// of workers from 1 to 64. Before a key is judged the gate is entered with the key's place, counted
-/// from 0, and after that it is left. The error says that memory ran out.
-pub fn judge_all<R: Threads + Sync, G: Gate>(
-    rt: &R,
-    alloc: Global,
-    history: &History,
-    workers: u32,
-    gate: &G,
-) -> Result<List<Verdict>, Memory>
-    requires valid { IsValidHistory history.now }
-    requires some_worker { 1 ≤ workers }
-    requires few_workers { workers ≤ 64 }
-    ensures truth { IfOk result (EachKeyHas IsTrueOf history.now.keys) }
-    ensures shown { IfOk result (EachKeyHas IsShown history.now.keys) }
-    ensures printed { IfOk result (ArePrintedVerdicts history.now.keys) }
-{
-    judge_each(alloc, history, gate)
-}
-
 /// Each valid key has a verdict that is printed.
 pub fn verdict_exists()
     ensures { VerdictExists }
@@ -155,4 +125,11 @@ pub fn two_theorem()
 /// [`two_atomic_at`](lbt_epochs::two_atomic_at) answers yes exactly where there is such an order.
 pub fn yes_is_exact()
     ensures { YesIsExact }
+{}
+
+/// Where calls of [`judge_claims`] on one history, at least one and none refused, drew the tickets
+/// from 1 on, each once, and no others were drawn, their claims together hold each key once. A
+/// [`look`](ticket_clock::Clock::look) tells this of the tickets, where the seats were joined.
+pub fn keys_are_claimed_once()
+    ensures { KeysAreClaimedOnce }
 {}
