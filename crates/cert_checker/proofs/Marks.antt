@@ -1,5 +1,5 @@
 -- A list that is walked to one of its places, with the marks it has left on the records.
-use Rattle.std.proofs.Common.{◌≡◌, ◌≢◌, ◌⊎◌, inl, inr, ◌<◌, ◌≤◌, ◌+◌, ℕ, Bool, true, false, List, [], ◌∷◌, ◌++◌, zero, suc, take, refl, add-one, below_more, length, Some, get_or, sym, ◌∙◌, ap, subst, arith, true≢false}
+use Rattle.std.proofs.Common.{◌≡◌, ◌≢◌, ◌⊎◌, inl, inr, ◌<◌, ◌≤◌, ◌+◌, ℕ, Bool, true, false, List, [], ◌∷◌, ◌++◌, zero, suc, take, refl, add-one, below_more, length, Option, Some, None, get_or, sym, ◌∙◌, ap, subst, arith, true≢false}
 use Rattle.std.specs.Prelude.{Contains}
 use Rattle.std.proofs.Math.ListN.{set}
 use Rattle.std.proofs.lemmas.List.{get_or-set_same, get_or-set_other, length-set, length-map, map-append, take_more, take_all}
@@ -13,7 +13,7 @@ use Rattle.stale_model.specs.Valid.{IsValidOp, IsValidKey}
 use Rattle.stale_model.proofs.Sorted.{rises_from}
 use Rattle.stale_model.proofs.Places.{contains_at, at_its_place, same_at, something_at, record_stands}
 use Rattle.cert_checker.specs.OrderFaults.{IsFirstWrong, StandsTo, IsStray, IsLeastMissing, IsWrongListing}
-use Rattle.cert_checker.specs.Steps.{AreMarks, AreListed, IsFirstUnmarked, IsKnown}
+use Rattle.cert_checker.specs.Steps.{AreMarks, AreListed, IsFirstUnmarked, FindsUnmarked, IsListed, IsKnown}
 use Rattle.cert_checker.proofs.InOrder.{not_below}
 use Rattle.cert_checker.proofs.Starts.{below_or_at}
 
@@ -258,14 +258,20 @@ good_from_known ops order listed marks known = record {
 }
 
 -- what the marks tell of a list whose entries are known
-pub wrong_by_mark : (key : KeyOps) (order : List ℕ) (listed : List Op) (marks : List Bool) (rec : ℕ) → IsValidKey key → IsKnown (operations key) order listed marks
+wrong_by_mark : (key : KeyOps) (order : List ℕ) (listed : List Op) (marks : List Bool) (rec : ℕ) → IsValidKey key → IsKnown (operations key) order listed marks
     → IsFirstUnmarked (operations key) marks rec → IsWrongListing (operations key) order rec
 wrong_by_mark key order listed marks rec valid known first =
     inr (least_missing marks (operations key) order (length order) (omega arith) (good_from_known (operations key) order listed marks known) known.marked
     first.place rec (key_rises key valid) first.there first.unmarked (λ p lt _. first.first p lt))
 
-pub listed_by_marks : (ops : List Op) (order : List ℕ) (listed : List Op) (marks : List Bool) → IsKnown ops order listed marks
+listed_by_marks : (ops : List Op) (order : List ℕ) (listed : List Op) (marks : List Bool) → IsKnown ops order listed marks
     → ((p : ℕ) → p < length ops → StandsAt marks p true) → ListsEachOnce (records_of ops) order
 listed_by_marks ops order listed marks known all =
     each_once marks ops order (length order) (omega arith) (good_from_known ops order listed marks known) known.marked
     (λ p within. all p (simp length-map at within))
+
+-- what is named by the marks of a list of known entries
+pub listed_from_marks : (key : KeyOps) (order : List ℕ) (listed : List Op) (marks : List Bool) (unmarked : Option ℕ) → IsValidKey key → IsKnown (operations key) order listed marks
+    → FindsUnmarked (operations key) marks unmarked → IsListed (operations key) order listed unmarked
+listed_from_marks key order listed marks None valid known all = (listed_by_marks (operations key) order listed marks known all, known.in_order)
+listed_from_marks key order listed marks (Some rec) valid known first = wrong_by_mark key order listed marks rec valid known first

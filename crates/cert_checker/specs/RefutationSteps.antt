@@ -17,8 +17,6 @@ use Rattle.cert_checker.specs.OrderFaults.{IsFirstWrong, StandsTo}
 use Rattle.cert_checker.specs.RefutationFaults.{IsStranger, IsFailedTry}
 use Rattle.cert_checker.specs.declared.refutations.Span.{Span}
 use Rattle.cert_checker.specs.declared.refutations.Case.{Case}
-use Rattle.cert_checker.specs.declared.refutations.Members.{Members}
-use Rattle.cert_checker.specs.declared.refutations.Members.TheVariants.{Stranger, Marks}
 
 -- one more operation of the cluster, of this kind and with these times
 abbrev pub with_times : Span → Kind → ℕ → ℕ → Span
@@ -85,10 +83,10 @@ pub record AreMembers (ops : List Op) (stuck : List ℕ) (marks : List Bool) : T
   pub once : IsWithoutRepeats stuck
   pub marked : HaveMark ops stuck (length stuck) marks true
 
--- the marks of the members, one for each value, or the first entry that is no write or stood before
-abbrev pub FindsMembers : KeyOps → List ℕ → Members → Type 0
-FindsMembers key stuck (Stranger rec) = IsFirstWrong (IsStranger (operations key) stuck) stuck rec
-FindsMembers key stuck (Marks marks) = AreMembers (operations key) stuck marks.items × (length marks.items ≡ length key.values + 1)
+-- the first entry that is no write or stood before, or that there is none and these are the marks of the members, one for each value
+abbrev pub FindsMembers : KeyOps → List ℕ → List Bool → Option ℕ → Type 0
+FindsMembers key stuck marks (Some rec) = IsFirstWrong (IsStranger (operations key) stuck) stuck rec
+FindsMembers key stuck marks None = AreMembers (operations key) stuck marks × (length marks ≡ length key.values + 1)
 
 -- the operations of a case
 abbrev pub case_ops : Case → List Op

@@ -7,8 +7,6 @@ use Rattle.stale_model.specs.Faults.{IsWriteOf, IsDuplicateKey, IsUnmatchedKey, 
 use Rattle.stale_model.specs.Orders.{StandsAt}
 use Rattle.cert_checker.specs.declared.faults.State.{State}
 use Rattle.cert_checker.specs.declared.faults.State.TheVariants.{Duplicate, Unmatched, Early, Clear}
-use Rattle.cert_checker.specs.declared.faults.Writes.{Writes}
-use Rattle.cert_checker.specs.declared.faults.Writes.TheVariants.{Starts, Duplicate as DuplicateWrite}
 
 -- the fault of the key, and the record that is named, or that it has none
 abbrev pub StateHolds : List Op → State → Type 0
@@ -33,7 +31,7 @@ pub record AreStarts (key : KeyOps) (starts : List (Option ℕ)) : Type 0 where
   pub size : length starts ≡ length key.values + 1
   pub slots : (value : ℕ) (slot : Option ℕ) → StandsAt starts value slot → IsStart (IsWriteOf (operations key) value) slot
 
--- the first duplicate write of a key, or the starts of its writes
-abbrev pub AreWrites : KeyOps → Writes → Type 0
-AreWrites key (DuplicateWrite rec) = IsDuplicateKey (operations key) rec
-AreWrites key (Starts starts) = AreStarts key starts.items
+-- the first duplicate write of a key, or that there is none and these are the starts of its writes
+abbrev pub AreWrites : KeyOps → List (Option ℕ) → Option ℕ → Type 0
+AreWrites key starts (Some rec) = IsDuplicateKey (operations key) rec
+AreWrites key starts None = AreStarts key starts

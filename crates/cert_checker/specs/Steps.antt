@@ -7,10 +7,6 @@ use Rattle.stale_model.specs.Operations.{records_of, earliest_start}
 use Rattle.stale_model.specs.Faults.{IsReadIn, IsWriteOf}
 use Rattle.stale_model.specs.Orders.{StandsAt, IsWithoutRepeats, ListsEachOnce, IsAmongLast}
 use Rattle.cert_checker.specs.OrderFaults.{IsFirstWrong, IsNowhere, StandsTo, IsStray, IsWrongListing, IsBackwards, IsUnreturned}
-use Rattle.cert_checker.specs.declared.orders.Walk.{Walk}
-use Rattle.cert_checker.specs.declared.orders.Walk.TheVariants.{Stray, Known}
-use Rattle.cert_checker.specs.declared.orders.Listed.{Listed}
-use Rattle.cert_checker.specs.declared.orders.Listed.TheVariants.{Ops, Wrong}
 use Rattle.cert_checker.specs.declared.orders.Latest.{Latest}
 
 -- the operations of these records, in this order
@@ -31,10 +27,10 @@ pub record IsKnown (ops : List Op) (order : List ℕ) (listed : List Op) (marks 
   pub one_each : length marks ≡ length ops
   pub marked : AreMarks (records_of ops) order (length order) marks
 
--- the operations of the entries, or the first entry that is none or stood before
-abbrev pub IsWalk : List Op → List ℕ → Walk → Type 0
-IsWalk ops order (Stray rec) = IsFirstWrong (IsStray ops order) order rec
-IsWalk ops order (Known listed marks) = IsKnown ops order listed.items marks.items
+-- the first entry that is no operation or stood before, or that there is none and these are the operations and marks
+abbrev pub IsWalk : List Op → List ℕ → List Op → List Bool → Option ℕ → Type 0
+IsWalk ops order listed marks (Some rec) = IsFirstWrong (IsStray ops order) order rec
+IsWalk ops order listed marks None = IsKnown ops order listed marks
 
 -- rec is the first record whose operation has no mark
 pub record IsFirstUnmarked (ops : List Op) (marks : List Bool) (rec : ℕ) : Type 0 where
@@ -48,10 +44,10 @@ abbrev pub FindsUnmarked : List Op → List Bool → Option ℕ → Type 0
 FindsUnmarked ops marks None = (p : ℕ) → p < length ops → StandsAt marks p true
 FindsUnmarked ops marks (Some rec) = IsFirstUnmarked ops marks rec
 
--- the operations in this order, each once, or the record that is named
-abbrev pub IsListed : List Op → List ℕ → Listed → Type 0
-IsListed ops order (Ops listed) = ListsEachOnce (records_of ops) order × AreListed ops order listed.items
-IsListed ops order (Wrong rec) = IsWrongListing ops order rec
+-- the record that is named, or that the order has each operation once and these are they
+abbrev pub IsListed : List Op → List ℕ → List Op → Option ℕ → Type 0
+IsListed ops order listed (Some rec) = IsWrongListing ops order rec
+IsListed ops order listed None = ListsEachOnce (records_of ops) order × AreListed ops order listed
 
 -- what finishes then precedes at d one of those with these greatest starts
 abbrev pub IsAfter : Latest → ℕ → ℕ → Type 0

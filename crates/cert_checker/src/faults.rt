@@ -5,8 +5,8 @@ ghost use Rattle.stale_model.specs.Valid.{IsValidKey};
 ghost use Rattle.stale_model.specs.Faults.{IsLeastRecord, HasNone, IsUnmatched, IsEarly};
 ghost use Rattle.cert_checker.specs.States.{StateHolds, AreStarts, AreWrites};
 
+use crate::lists::refill;
 use stale_model::{INITIAL_WRITE, KeyOps, Kind, Memory};
-use std::alloc::Global;
 
 // The fault of a key with the record that is named, or that it has none.
 #[derive(Clone, Copy)]
@@ -21,32 +21,24 @@ pub(crate) enum State {
     Clear,
 }
 
-// The writes of a key.
-#[derive(Drop)]
-enum Writes {
-    // The first one whose value was written before.
-    Duplicate { rec: u32 },
-    // No value is written twice: for each value the earliest start of its write, none where it is not written.
-    Starts(Vec<Option<u64>>),
-}
-
-// The writes of a key, one after the other, up to the first one whose value was written before.
-fn writes_of(alloc: Global, key: &KeyOps) -> Result<Writes, Memory>
+// The record of the first write whose value was written before. Where there is none, the list has for each value the
+// earliest start of its write, none where it is not written.
+fn first_duplicate(starts: &mut Vec<Option<u64>>, key: &KeyOps) -> Result<Option<u32>, Memory>
     requires { IsValidKey key.now }
-    ensures { IfOk result (AreWrites key.now) }
+    ensures { IfOk result (AreWrites key.now starts.new.items) }
 {
     let slots = key.values.as_slice().len() + 1;
-    let mut starts = vec![in alloc; None; slots].map_err(|_| Memory)?;
+    refill(starts, slots, None)?;
     starts[0] = Some(INITIAL_WRITE.earliest_start());
     for op in key.ops.as_slice() {
         let value = op.value as usize;
         match (op.kind, starts[value]) {
             (Kind::Read, _) => {}
-            (Kind::Write, Some(_)) => return Ok(Writes::Duplicate { rec: op.rec }),
+            (Kind::Write, Some(_)) => return Ok(Some(op.rec)),
             (Kind::Write, None) => starts[value] = Some(op.earliest_start()),
         }
     }
-    Ok(Writes::Starts(starts))
+    Ok(None)
 }
 
 // The record of the first read whose value is not written.
@@ -91,18 +83,18 @@ fn first_early(starts: &[Option<u64>], key: &KeyOps) -> Option<u32>
 
 /// The fault of a valid key, with the least record that has it, or that it has none. Takes time in proportion to the
 /// operations and the values. The error says that memory ran out.
-pub(crate) fn state_of(alloc: Global, key: &KeyOps) -> Result<State, Memory>
+pub(crate) fn state_of(starts: &mut Vec<Option<u64>>, key: &KeyOps) -> Result<State, Memory>
     requires { IsValidKey key.now }
     ensures { IfOk result (StateHolds (operations key.now)) }
 {
-    let starts = match writes_of(alloc, key)? {
-        Writes::Duplicate { rec } => return Ok(State::Duplicate { rec }),
-        Writes::Starts(starts) => starts,
-    };
-    if let Some(rec) = first_unmatched(&starts, key) {
+    if let Some(rec) = first_duplicate(starts, key)? {
+        return Ok(State::Duplicate { rec });
+    }
+    let starts = starts.as_slice();
+    if let Some(rec) = first_unmatched(starts, key) {
         return Ok(State::Unmatched { rec });
     }
-    match first_early(&starts, key) {
+    match first_early(starts, key) {
         Some(rec) => Ok(State::Early { rec }),
         None => Ok(State::Clear),
     }

@@ -9,9 +9,9 @@ ghost use Rattle.cert_checker.specs.KeySteps.{named_state, FindsKindIn, IsTwoChe
 
 use crate::faults::{State, state_of};
 use crate::four::four_hold;
-use crate::orders::{OrderFault, order_fault};
+use crate::orders::{OrderFault, OrderLists, order_fault};
 use crate::records::Hints;
-use crate::refutations::refutation_fault;
+use crate::refutations::{RefutationLists, refutation_fault};
 use crate::{Checked, Found};
 use stale_model::{Four, History, Judgement, KeyOps, Memory, TwoPart, Verdict};
 use std::alloc::Global;
@@ -128,24 +128,44 @@ fn record_of_four(four: &Option<Four>) -> u32
     }
 }
 
+// The working lists of the check of a verdict, which keep their room from one key to the next.
+#[derive(Drop)]
+struct Tables {
+    // The start of the write of each value.
+    starts: Vec<Option<u64>>,
+    // Where the operations stand.
+    hints: Hints,
+    order: OrderLists,
+    refutation: RefutationLists,
+}
+
+impl Tables {
+    // Tables of no key.
+    fn new(alloc: Global) -> Tables {
+        Tables {
+            starts: Vec::new(alloc),
+            hints: Hints::new(alloc),
+            order: OrderLists::new(alloc),
+            refutation: RefutationLists::new(alloc),
+        }
+    }
+}
+
 // The fault of what shows whether a key is 2-atomic.
-fn two_fault(
-    alloc: Global,
-    key: &KeyOps,
-    hints: &Hints,
-    part: &TwoPart,
-) -> Result<Option<TwoFault>, Memory>
+fn two_fault(tables: &mut Tables, key: &KeyOps, part: &TwoPart) -> Result<Option<TwoFault>, Memory>
     requires valid { IsValidKey key.now }
     requires matched { IsMatchedKey (operations key.now) }
     ensures { IfOk result (IsTwoCheck (operations key.now) part.now) }
 {
     match part {
         TwoPart::Yes(order) => {
-            let fault = order_fault(alloc, 0, 2, key, hints, order.as_slice())?;
+            let lists = &mut tables.order;
+            let fault = order_fault(lists, 0, 2, key, &tables.hints, order.as_slice())?;
             Ok(fault.map(TwoFault::Order))
         }
         TwoPart::No(refutation) => {
-            let rec = refutation_fault(alloc, 0, key, hints, refutation)?;
+            let lists = &mut tables.refutation;
+            let rec = refutation_fault(lists, 0, key, &tables.hints, refutation)?;
             Ok(rec.map(|rec| TwoFault::Refutation { rec }))
         }
     }
@@ -153,7 +173,7 @@ fn two_fault(
 
 // The fault of a judgement of a key without a fault.
 fn judgement_fault(
-    alloc: Global,
+    tables: &mut Tables,
     key: &KeyOps,
     judgement: &Judgement,
 ) -> Result<Option<KeyFault>, Memory>
@@ -161,34 +181,52 @@ fn judgement_fault(
     requires clear { IsClearKey (operations key.now) }
     ensures { IfOk result (IsKeyCheck (operations key.now) (Verdict.Judged judgement.now)) }
 {
-    let hints = Hints::of(alloc, key)?;
+    tables.hints.lead_to(key)?;
     let delta = judgement.delta;
     let order = judgement.order.as_slice();
-    if let Some(fault) = order_fault(alloc, delta, 1, key, &hints, order)? {
+    if let Some(fault) = order_fault(&mut tables.order, delta, 1, key, &tables.hints, order)? {
         return Ok(Some(KeyFault::First(fault)));
     }
     if !four_shows(delta, key, &judgement.four) {
         let rec = record_of_four(&judgement.four);
         return Ok(Some(KeyFault::Four { rec }));
     }
-    match two_fault(alloc, key, &hints, &judgement.two)? {
+    match two_fault(tables, key, &judgement.two)? {
         Some(fault) => Ok(Some(KeyFault::Two(fault))),
         None => Ok(None),
     }
 }
 
 // The fault of a verdict.
-fn key_fault(alloc: Global, key: &KeyOps, verdict: &Verdict) -> Result<Option<KeyFault>, Memory>
+fn key_fault(
+    tables: &mut Tables,
+    key: &KeyOps,
+    verdict: &Verdict,
+) -> Result<Option<KeyFault>, Memory>
     requires { IsValidKey key.now }
     ensures { IfOk result (IsKeyCheck (operations key.now) verdict.now) }
 {
-    let state = state_of(alloc, key)?;
+    let state = state_of(&mut tables.starts, key)?;
     if let Some(rec) = kind_fault(state, verdict) {
         return Ok(Some(KeyFault::Kind { rec }));
     }
     match verdict {
-        Verdict::Judged(judgement) => judgement_fault(alloc, key, judgement),
+        Verdict::Judged(judgement) => judgement_fault(tables, key, judgement),
         _ => Ok(None),
+    }
+}
+
+// What is found of a verdict.
+fn found_of(tables: &mut Tables, key: &KeyOps, verdict: &Verdict) -> Result<Found, Memory>
+    requires { IsValidKey key.now }
+    ensures { IfOk result (FindsKey (operations key.now) verdict.now) }
+{
+    match key_fault(tables, key, verdict)? {
+        None => Ok(Found::Good),
+        Some(fault) => Ok(Found::Bad {
+            rule: fault.rule(),
+            rec: fault.record(),
+        }),
     }
 }
 
@@ -202,13 +240,8 @@ pub fn check_key(alloc: Global, key: &KeyOps, verdict: &Verdict) -> Result<Found
     requires { IsValidKey key.now }
     ensures { IfOk result (FindsKey (operations key.now) verdict.now) }
 {
-    match key_fault(alloc, key, verdict)? {
-        None => Ok(Found::Good),
-        Some(fault) => Ok(Found::Bad {
-            rule: fault.rule(),
-            rec: fault.record(),
-        }),
-    }
+    let mut tables = Tables::new(alloc);
+    found_of(&mut tables, key, verdict)
 }
 
 /// Whether each verdict of a valid history is shown. Else the first key, counted from 1, whose verdict isn't, with
@@ -219,8 +252,9 @@ pub fn check_all(alloc: Global, history: &History, verdicts: &[Verdict]) -> Resu
     requires as_many { length verdicts.now ≡ length history.now.keys }
     ensures { IfOk result (FindsAll history.now.keys verdicts.now) }
 {
+    let mut tables = Tables::new(alloc);
     for (place, key) in history.keys.as_slice().iter().enumerate() {
-        if let Found::Bad { rule, rec } = check_key(alloc, key, &verdicts[place])? {
+        if let Found::Bad { rule, rec } = found_of(&mut tables, key, &verdicts[place])? {
             return Ok(Checked::Bad {
                 key: place as u32 + 1,
                 rule,

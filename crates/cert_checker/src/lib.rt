@@ -5,6 +5,7 @@ mod faults;
 mod four;
 mod keys;
 mod laws;
+mod lists;
 mod orders;
 mod records;
 mod refutations;

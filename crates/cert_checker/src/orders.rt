@@ -8,6 +8,7 @@ ghost use Rattle.cert_checker.specs.OrderFaults.{IsOrderCheck, FindsOrder, order
 ghost use Rattle.cert_checker.specs.Steps.{IsWalk, FindsUnmarked, IsListed, AreListed, IsAfter, with_op, FindsBackwards, FindsUnreturned};
 
 use crate::Found;
+use crate::lists::refill;
 use crate::records::Hints;
 use stale_model::{KeyOps, Kind, Memory, Op};
 use std::alloc::Global;
@@ -48,32 +49,54 @@ impl OrderFault {
     }
 }
 
-// A list of records, walked from its front.
+// The working lists of the check of an order.
 #[derive(Drop)]
-enum Walk {
-    // The first entry that is no operation, or stood before.
-    Stray { rec: u32 },
-    // The operations, and a mark for each operation of the key that is among them.
-    Known { ops: Vec<Op>, marks: Vec<bool> },
+pub(crate) struct OrderLists {
+    // A mark for each operation of the key.
+    marks: Vec<bool>,
+    // The operations that the entries name.
+    ops: Vec<Op>,
+    // For each value how many writes stand up to its own.
+    written: Vec<usize>,
 }
 
-fn follow(alloc: Global, key: &KeyOps, hints: &Hints, order: &[u32]) -> Result<Walk, Memory>
+impl OrderLists {
+    /// Empty lists.
+    pub(crate) fn new(alloc: Global) -> OrderLists {
+        OrderLists {
+            marks: Vec::new(alloc),
+            ops: Vec::new(alloc),
+            written: Vec::new(alloc),
+        }
+    }
+}
+
+// The first entry that is no operation, or stood before. Where there is none, the lists have the operations of the
+// entries, and a mark for each operation of the key that is among them.
+fn follow(
+    marks: &mut Vec<bool>,
+    ops: &mut Vec<Op>,
+    key: &KeyOps,
+    hints: &Hints,
+    order: &[u32],
+) -> Result<Option<u32>, Memory>
     requires { IsValidKey key.now }
-    ensures { IfOk result (IsWalk (operations key.now) order.now) }
+    ensures { IfOk result (IsWalk (operations key.now) order.now ops.new.items marks.new.items) }
 {
     let count = key.ops.as_slice().len() + 1;
-    let mut marks = vec![in alloc; false; count].map_err(|_| Memory)?;
-    let mut ops = Vec::with_capacity(alloc, count).map_err(|_| Memory)?;
+    refill(marks, count, false)?;
+    ops.clear();
+    ops.reserve(count).map_err(|_| Memory)?;
     for rec in order {
         match hints.find(key, *rec) {
             Some(found) if !marks[found.place] => {
                 marks[found.place] = true;
                 ops.push(found.op).map_err(|_| Memory)?;
             }
-            _ => return Ok(Walk::Stray { rec: *rec }),
+            _ => return Ok(Some(*rec)),
         }
     }
-    Ok(Walk::Known { ops, marks })
+    Ok(None)
 }
 
 // The least record whose operation has no mark.
@@ -92,23 +115,20 @@ fn first_unmarked(key: &KeyOps, marks: &[bool]) -> Option<u32>
     None
 }
 
-// The operations of a list that has each once, or the record that is named.
-#[derive(Drop)]
-enum Listed {
-    Ops(Vec<Op>),
-    Wrong { rec: u32 },
-}
-
-fn listing(alloc: Global, key: &KeyOps, hints: &Hints, order: &[u32]) -> Result<Listed, Memory>
+// The record that is named where the list doesn't have each operation once. Where it has, `ops` has them in its order.
+fn listing(
+    marks: &mut Vec<bool>,
+    ops: &mut Vec<Op>,
+    key: &KeyOps,
+    hints: &Hints,
+    order: &[u32],
+) -> Result<Option<u32>, Memory>
     requires { IsValidKey key.now }
-    ensures { IfOk result (IsListed (operations key.now) order.now) }
+    ensures { IfOk result (IsListed (operations key.now) order.now ops.new.items) }
 {
-    match follow(alloc, key, hints, order)? {
-        Walk::Stray { rec } => Ok(Listed::Wrong { rec }),
-        Walk::Known { ops, marks } => match first_unmarked(key, &marks) {
-            Some(rec) => Ok(Listed::Wrong { rec }),
-            None => Ok(Listed::Ops(ops)),
-        },
+    match follow(marks, ops, key, hints, order)? {
+        Some(rec) => Ok(Some(rec)),
+        None => Ok(first_unmarked(key, marks.as_slice())),
     }
 }
 
@@ -158,7 +178,7 @@ fn first_backwards(d: u64, key: &KeyOps, listed: &[Op]) -> Option<u32>
 // The record of the first read that returns none of the last k writes before it. For each value it keeps how many
 // writes stand up to its own.
 fn first_unreturned(
-    alloc: Global,
+    written: &mut Vec<usize>,
     k: u32,
     key: &KeyOps,
     listed: &[Op],
@@ -170,7 +190,7 @@ fn first_unreturned(
     ensures { IfOk result (FindsUnreturned (operations key.now) k (records_of listed.now)) }
 {
     let slots = key.values.as_slice().len() + 1;
-    let mut written = vec![in alloc; 0usize; slots].map_err(|_| Memory)?;
+    refill(written, slots, 0)?;
     let mut writes = 0usize;
     for op in listed {
         let value = op.value as usize;
@@ -191,7 +211,7 @@ fn first_unreturned(
 
 /// The fault of a list of records as an order at d in which reads return one of the last k writes.
 pub(crate) fn order_fault(
-    alloc: Global,
+    lists: &mut OrderLists,
     d: u64,
     k: u32,
     key: &KeyOps,
@@ -202,14 +222,14 @@ pub(crate) fn order_fault(
     requires matched { IsMatchedKey (operations key.now) }
     ensures { IfOk result (IsOrderCheck (operations key.now) d k order.now) }
 {
-    let ops = match listing(alloc, key, hints, order)? {
-        Listed::Ops(ops) => ops,
-        Listed::Wrong { rec } => return Ok(Some(OrderFault::Listing { rec })),
-    };
-    if let Some(rec) = first_backwards(d, key, &ops) {
+    if let Some(rec) = listing(&mut lists.marks, &mut lists.ops, key, hints, order)? {
+        return Ok(Some(OrderFault::Listing { rec }));
+    }
+    let ops = lists.ops.as_slice();
+    if let Some(rec) = first_backwards(d, key, ops) {
         return Ok(Some(OrderFault::Precedence { rec }));
     }
-    match first_unreturned(alloc, k, key, &ops)? {
+    match first_unreturned(&mut lists.written, k, key, ops)? {
         Some(rec) => Ok(Some(OrderFault::Returns { rec })),
         None => Ok(None),
     }
@@ -233,7 +253,8 @@ pub fn check_order(
     ensures { IfOk result (FindsOrder (operations key.now) d k order.now) }
 {
     let hints = Hints::of(alloc, key)?;
-    match order_fault(alloc, d, k, key, &hints, order)? {
+    let mut lists = OrderLists::new(alloc);
+    match order_fault(&mut lists, d, k, key, &hints, order)? {
         None => Ok(Found::Good),
         Some(fault) => Ok(Found::Bad {
             rule: fault.rule(2),

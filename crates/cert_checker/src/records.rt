@@ -5,6 +5,7 @@ ghost use Rattle.stale_model.specs.Valid.{IsValidKey};
 ghost use Rattle.stale_model.specs.Precedence.{Precedes};
 ghost use Rattle.cert_checker.specs.Records.{IsPlaced, IsFound};
 
+use crate::lists::refill;
 use stale_model::{INITIAL_WRITE, KeyOps, Kind, Memory, Op};
 use std::alloc::Global;
 
@@ -36,20 +37,51 @@ pub(crate) fn search(key: &KeyOps, rec: u32) -> Option<Placed>
     }
 }
 
-// The least number of slots that a table may have for each operation.
+// The greatest number of slots that a table has for each operation.
 const SLOTS: usize = 4;
 
-// Where the operations of a key stand, by how far their records lie above the first one: what it says is looked up
-// before it is believed. It has no slots where the records lie far apart.
+// By which power of two records are divided that lie this far apart at most, so that a table of so many operations has
+// SLOTS slots for each at most.
+fn shift_for(width: usize, ops: usize) -> u32 {
+    let spread = width / SLOTS / ops.max(1);
+    if spread == 0 { 0 } else { spread.ilog2() + 1 }
+}
+
+// Where the operations of a key stand, by how far their records lie above the first one, divided by a power of two: what
+// it says is looked up before it is believed.
 #[derive(Drop)]
 pub(crate) struct Hints {
     first: u32,
+    shift: u32,
     places: Vec<u32>,
 }
 
 impl Hints {
+    /// A table of no key.
+    pub(crate) fn new(alloc: Global) -> Hints {
+        Hints {
+            first: 0,
+            shift: 0,
+            places: Vec::new(alloc),
+        }
+    }
+
     /// The table of a key.
     pub(crate) fn of(alloc: Global, key: &KeyOps) -> Result<Hints, Memory>
+        requires { IsValidKey key.now }
+    {
+        let mut hints = Hints::new(alloc);
+        hints.lead_to(key)?;
+        Ok(hints)
+    }
+
+    // The slot of an operation with this record.
+    fn slot(&self, rec: u32) -> usize {
+        (rec.saturating_sub(self.first) as usize).wrapping_shr(self.shift)
+    }
+
+    /// Makes this the table of a key.
+    pub(crate) fn lead_to(&mut self, key: &KeyOps) -> Result<(), Memory>
         requires { IsValidKey key.now }
     {
         let ops = key.ops.as_slice();
@@ -57,27 +89,24 @@ impl Hints {
             (Some(first), Some(last)) => (first.rec, last.rec),
             _ => (0, 0),
         };
-        let width = last.saturating_sub(first) as usize;
-        let slots = if width / SLOTS < ops.len() {
-            width + 1
-        } else {
-            0
-        };
-        let mut places = vec![in alloc; 0u32; slots].map_err(|_| Memory)?;
+        self.first = first;
+        self.shift = shift_for(last.saturating_sub(first) as usize, ops.len());
+        let slots = self.slot(last).saturating_add(1);
+        refill(&mut self.places, slots, 0)?;
         for (place, op) in ops.iter().enumerate() {
-            let slot = op.rec.saturating_sub(first) as usize;
-            if slot < places.len() {
-                places[slot] = place as u32;
+            let slot = self.slot(op.rec);
+            if slot < self.places.len() {
+                self.places[slot] = place as u32;
             }
         }
-        Ok(Hints { first, places })
+        Ok(())
     }
 
     // The operation with this record, where the table leads to it.
     fn guess(&self, key: &KeyOps, rec: u32) -> Option<Placed>
         ensures { IfSome result (IsPlaced (operations key.now) rec) }
     {
-        let slot = rec.saturating_sub(self.first) as usize;
+        let slot = self.slot(rec);
         let ops = key.ops.as_slice();
         if slot >= self.places.len() {
             return None;

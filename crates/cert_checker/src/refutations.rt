@@ -1,5 +1,5 @@
 //! Refutations of 2-atomicity: members that are writes, and a try for each.
-ghost use Rattle.std.specs.Prelude.{◌≡◌, ◌+◌, ◌^◌, ◌<◌, ◌≤◌, ◌↔◌, All, IfOk, IsTrue, length};
+ghost use Rattle.std.specs.Prelude.{◌≡◌, ◌+◌, ◌^◌, ◌<◌, ◌≤◌, ◌↔◌, All, IfOk, OnOk, IsTrue, length};
 ghost use Rattle.stale_model.specs.Operations.{operations, latest_finish};
 ghost use Rattle.stale_model.specs.Valid.{IsValidKey};
 ghost use Rattle.stale_model.specs.Faults.{IsMatchedKey};
@@ -7,6 +7,7 @@ ghost use Rattle.cert_checker.specs.RefutationFaults.{IsRefutationCheck, FindsRe
 ghost use Rattle.cert_checker.specs.RefutationSteps.{with_op, AreSpansOf, FindsWritten, FindsMembers, AreMembers, case_ops, case_stuck, IsCase, FindsMember, FindsEnd, PrecedesUnmarked, AreReadsApart, AfterWalk, FindsUnplaced, TellsHard, TellsSoft, TellsEnd, TellsTry, FindsFailed};
 
 use crate::Found;
+use crate::lists::refill;
 use crate::records::{Hints, precedes};
 use stale_model::{End, INITIAL_WRITE, KeyOps, Kind, Memory, Op, Refutation, Try};
 use std::alloc::Global;
@@ -42,24 +43,46 @@ impl Span {
     }
 }
 
-// The span of each value.
-fn spans_of(alloc: Global, key: &KeyOps) -> Result<Vec<Span>, Memory>
+// The working lists of the check of a refutation.
+#[derive(Drop)]
+pub(crate) struct RefutationLists {
+    // A mark for each value.
+    members: Vec<bool>,
+    // The span of each value.
+    spans: Vec<Span>,
+    // For each value the last chain that it was in.
+    marks: Vec<usize>,
+}
+
+impl RefutationLists {
+    /// Empty lists.
+    pub(crate) fn new(alloc: Global) -> RefutationLists {
+        RefutationLists {
+            members: Vec::new(alloc),
+            spans: Vec::new(alloc),
+            marks: Vec::new(alloc),
+        }
+    }
+}
+
+// Fills the list with the span of each value.
+fn fill_spans(spans: &mut Vec<Span>, key: &KeyOps) -> Result<(), Memory>
     requires { IsValidKey key.now }
-    ensures spans { IfOk result (λ spans. AreSpansOf key.now spans.items) }
-    ensures size { IfOk result (λ spans. length spans.items ≡ length key.now.values + 1) }
+    ensures spans { OnOk result (AreSpansOf key.now spans.new.items) }
+    ensures size { OnOk result (length spans.new.items ≡ length key.now.values + 1) }
 {
     let slots = key.values.as_slice().len() + 1;
     let none = Span {
         finish: u64::MAX,
         start: 0,
     };
-    let mut spans = vec![in alloc; none; slots].map_err(|_| Memory)?;
+    refill(spans, slots, none)?;
     spans[0] = none.with(&INITIAL_WRITE);
     for op in key.ops.as_slice() {
         let value = op.value as usize;
         spans[value] = spans[value].with(op);
     }
-    Ok(spans)
+    Ok(())
 }
 
 // The value of the write with this record, if there is one.
@@ -74,30 +97,27 @@ fn written_value(key: &KeyOps, hints: &Hints, rec: u32) -> Option<usize>
     }
 }
 
-// What the entries of `stuck` are.
-#[derive(Drop)]
-enum Members {
-    // The first that is the record of no write, or stood before.
-    Stranger { rec: u32 },
-    // All are records of writes, each once: a mark for each of their values.
-    Marks(Vec<bool>),
-}
-
-// The entries of `stuck`.
-fn members_of(alloc: Global, key: &KeyOps, hints: &Hints, stuck: &[u32]) -> Result<Members, Memory>
+// The first entry of `stuck` that is the record of no write, or stood before. Where there is none, the list has a mark
+// for each of their values.
+fn first_stranger(
+    marks: &mut Vec<bool>,
+    key: &KeyOps,
+    hints: &Hints,
+    stuck: &[u32],
+) -> Result<Option<u32>, Memory>
     requires valid { IsValidKey key.now }
     requires matched { IsMatchedKey (operations key.now) }
-    ensures { IfOk result (FindsMembers key.now stuck.now) }
+    ensures { IfOk result (FindsMembers key.now stuck.now marks.new.items) }
 {
     let slots = key.values.as_slice().len() + 1;
-    let mut marks = vec![in alloc; false; slots].map_err(|_| Memory)?;
+    refill(marks, slots, false)?;
     for rec in stuck {
         match written_value(key, hints, *rec) {
             Some(value) if !marks[value] => marks[value] = true,
-            _ => return Ok(Members::Stranger { rec: *rec }),
+            _ => return Ok(Some(*rec)),
         }
     }
-    Ok(Members::Marks(marks))
+    Ok(None)
 }
 
 // Whether two operations are reads of two values.
@@ -260,16 +280,16 @@ impl Case<'_> {
     }
 
     // The member of the first try that doesn't hold.
-    fn first_failed(&self, alloc: Global) -> Result<Option<u32>, Memory>
+    fn first_failed(&self, marks: &mut Vec<usize>) -> Result<Option<u32>, Memory>
         requires case { IsCase self.now }
         requires as_many { length self.now.refutation.now.tries ≡ length (case_stuck self.now) }
         ensures { IfOk result (FindsFailed (case_ops self.now) self.now.d self.now.refutation.now) }
     {
         let stuck = self.refutation.stuck.as_slice();
-        let mut marks = vec![in alloc; 0usize; self.members.len()].map_err(|_| Memory)?;
+        refill(marks, self.members.len(), 0)?;
         for (place, attempt) in self.refutation.tries.as_slice().iter().enumerate() {
             let member = stuck[place];
-            if !self.try_holds(&mut marks, place + 1, member, attempt) {
+            if !self.try_holds(marks, place + 1, member, attempt) {
                 return Ok(Some(member));
             }
         }
@@ -279,7 +299,8 @@ impl Case<'_> {
 
 // The record that is named where there is no stranger among the members, and these are the marks of their values.
 fn tries_fault(
-    alloc: Global,
+    spans: &mut Vec<Span>,
+    marks: &mut Vec<usize>,
     d: u64,
     key: &KeyOps,
     hints: &Hints,
@@ -296,21 +317,22 @@ fn tries_fault(
     if stuck.is_empty() || refutation.tries.as_slice().len() != stuck.len() {
         return Ok(Some(0));
     }
-    let spans = spans_of(alloc, key)?;
+    fill_spans(spans, key)?;
+    let spans = spans.as_slice();
     let case = Case {
         d,
         key,
         hints,
         refutation,
         members,
-        spans: &spans,
+        spans,
     };
-    case.first_failed(alloc)
+    case.first_failed(marks)
 }
 
 /// The record that is named where the refutation doesn't hold at d.
 pub(crate) fn refutation_fault(
-    alloc: Global,
+    lists: &mut RefutationLists,
     d: u64,
     key: &KeyOps,
     hints: &Hints,
@@ -320,10 +342,20 @@ pub(crate) fn refutation_fault(
     requires matched { IsMatchedKey (operations key.now) }
     ensures { IfOk result (IsRefutationCheck (operations key.now) d refutation.now) }
 {
-    match members_of(alloc, key, hints, refutation.stuck.as_slice())? {
-        Members::Stranger { rec } => Ok(Some(rec)),
-        Members::Marks(marks) => tries_fault(alloc, d, key, hints, refutation, &marks),
+    let stuck = refutation.stuck.as_slice();
+    if let Some(rec) = first_stranger(&mut lists.members, key, hints, stuck)? {
+        return Ok(Some(rec));
     }
+    let members = lists.members.as_slice();
+    tries_fault(
+        &mut lists.spans,
+        &mut lists.marks,
+        d,
+        key,
+        hints,
+        refutation,
+        members,
+    )
 }
 
 /// Whether a refutation holds, so that no order of all operations exists in which each read returns one of the last
@@ -341,7 +373,8 @@ pub fn check_refutation(
     ensures { IfOk result (FindsRefutation (operations key.now) 0 refutation.now) }
 {
     let hints = Hints::of(alloc, key)?;
-    match refutation_fault(alloc, 0, key, &hints, refutation)? {
+    let mut lists = RefutationLists::new(alloc);
+    match refutation_fault(&mut lists, 0, key, &hints, refutation)? {
         None => Ok(Found::Good),
         Some(rec) => Ok(Found::Bad { rule: 9, rec }),
     }

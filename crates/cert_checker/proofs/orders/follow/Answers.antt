@@ -1,4 +1,4 @@
-use Rattle.std.proofs.Common.{rules, ◌≡◌, ◌⊎◌, inl, inr, ◌<◌, ℕ, Bool, true, false, List, get_or, subst, sym, ap, ◌∙◌, Some}
+use Rattle.std.proofs.Common.{rules, ◌≡◌, inl, inr, ◌<◌, ℕ, Bool, true, false, List, get_or, subst, sym, ap, ◌∙◌, Some, arith}
 use Rattle.std.specs.Prelude.{Contains, is_ok}
 use Rattle.std.proofs.lemmas.List.{length-set}
 use Rattle.std.proofs.lemmas.Option.{slice_get-get_or, slice_get_within}
@@ -11,12 +11,10 @@ use Rattle.cert_checker.specs.Records.{IsPlaced, IsFound}
 use Rattle.cert_checker.specs.OrderFaults.{StandsTo}
 use Rattle.cert_checker.proofs.Lookups.{of_record, record_at, no_record}
 use Rattle.cert_checker.proofs.Marks.{Rises, good_more, marks_more, first_stray, fresh_at, read_is, key_rises, listed_more, known_to_end}
-use Rattle.cert_checker.proofs.orders.follow.Goals.{in_default-via-in-Some+else-not-index, in_default-via-in_default}
 use Rattle.cert_checker.proofs.orders.follow.Goals as goal
 
 pub returns-in_default : goal.returns-in_default
-returns-in_default c =
-    first_stray ops order n rec c.loop-rec.invariant.good (slice_get-get_or order n 0 c.loop-rec-test.true) why
+returns-in_default c = first_stray ops order n rec c.loop-rec.invariant.good (slice_get-get_or order n 0 c.loop-rec-test.true) (inr stands)
   where
     ops : List Op
     ops = operations c.args.key.now
@@ -30,18 +28,43 @@ returns-in_default c =
     rec : ℕ
     rec = get_or order n 0
 
-    stands : (found : Placed) (r : Bool) → IsPlaced ops rec found → r ≡ get_or c.loop-rec.marks.items found.place r → r ≡ true → StandsTo order n rec
-    stands found r is read e =
-        let there : StandsAt (records_of ops) found.place rec = record_at ops rec found is in
-        c.loop-rec.invariant.marked.only found.place rec there
-        (slice_get-get_or c.loop-rec.marks.items found.place true (subst (λ k. found.place < k) (sym c.loop-rec.invariant.one_each) (slice_get_within ops found.place found.op is.there))
-        ∙ ap (λ x. Some x) (read_is c.loop-rec.marks.items found.place r true read e))
+    found : Placed
+    found = c.in-Some.found
 
-    why : (Contains (records_of ops) rec → ⊥) ⊎ StandsTo order n rec
-    why = elim c.in_default.branch [
-      | in_default-via-in-Some+else-not-index w ↦ inr (stands w.in-Some.found w.index.result.now (subst (IsFound ops rec) w.in-Some.is c.find.ensures) w.index.ensures w.if-not-index.false)
-      | in_default-via-in_default w ↦ inl (no_record ops rec (subst (IsFound ops rec) w.in_default.is c.find.ensures))
-    ]
+    marks : List Bool
+    marks = c.loop-rec.marks.items
+
+    is : IsPlaced ops rec found
+    is = subst (IsFound ops rec) c.in-Some.is c.find.ensures
+
+    stands : StandsTo order n rec
+    stands =
+        c.loop-rec.invariant.marked.only found.place rec (record_at ops rec found is)
+        (slice_get-get_or marks found.place true (subst (λ k. found.place < k) (sym c.loop-rec.invariant.one_each) (slice_get_within ops found.place found.op is.there))
+        ∙ ap (λ x. Some x) (read_is marks found.place c.index.result.now true c.index.ensures c.if-not-index.false))
+
+pub returns-in_default-2 : goal.returns-in_default-2
+returns-in_default-2 c =
+    let ops : List Op = operations c.args.key.now in
+    let rec : ℕ = get_or c.args.order.now c.loop-rec.rec-index 0 in
+    first_stray ops c.args.order.now c.loop-rec.rec-index rec c.loop-rec.invariant.good (slice_get-get_or c.args.order.now c.loop-rec.rec-index 0 c.loop-rec-test.true)
+    (inl (no_record ops rec (subst (IsFound ops rec) c.in_default.is c.find.ensures)))
+
+pub index-requires : goal.index-requires
+index-requires c =
+    let ops : List Op = operations c.args.key.now in
+    let is : IsPlaced ops (get_or c.args.order.now c.loop-rec.rec-index 0) c.in-Some.found = subst (IsFound ops (get_or c.args.order.now c.loop-rec.rec-index 0)) c.in-Some.is c.find.ensures in
+    let size = c.loop-rec.invariant.one_each in
+    let low = slice_get_within ops c.in-Some.found.place c.in-Some.found.op is.there in
+    omega arith
+
+pub index_mut-requires : goal.index_mut-requires
+index_mut-requires c =
+    let ops : List Op = operations c.args.key.now in
+    let is : IsPlaced ops (get_or c.args.order.now c.loop-rec.rec-index 0) c.in-Some.found = subst (IsFound ops (get_or c.args.order.now c.loop-rec.rec-index 0)) c.in-Some.is c.find.ensures in
+    let size = c.loop-rec.invariant.one_each in
+    let low = slice_get_within ops c.in-Some.found.place c.in-Some.found.op is.there in
+    omega arith
 
 pub loop-rec-preserved : goal.loop-rec-preserved
 loop-rec-preserved c =

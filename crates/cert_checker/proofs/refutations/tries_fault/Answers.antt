@@ -23,15 +23,13 @@ returns-then-is_empty c = inr (inl (record {
 
 pub first_failed-requires-clause-case : goal.first_failed-requires-clause-case
 first_failed-requires-clause-case c =
-    let spans = rw c.in_ok-spans.was at c.spans_of.ensures.spans in
-    let size = rw c.in_ok-spans.was at c.spans_of.ensures.size in
     record {
       valid = c.requires.valid;
       matched = c.requires.matched;
       members = c.requires.members;
       members_size = c.requires.size;
-      spans = subst (AreSpans (operations c.args.key.now) (length (operations c.args.key.now))) (sym c.deref.ensures.value) spans;
-      spans_size = ap length c.deref.ensures.value ∙ size;
+      spans = subst (AreSpans (operations c.args.key.now) (length (operations c.args.key.now))) (sym c.as_slice-spans.ensures.value) c.in_ok-fill_spans.ensures.spans;
+      spans_size = ap length c.as_slice-spans.ensures.value ∙ c.in_ok-fill_spans.ensures.size;
     }
 
 pub returns : goal.returns

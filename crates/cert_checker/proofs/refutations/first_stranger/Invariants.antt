@@ -2,7 +2,7 @@ use Rattle.std.proofs.Common.{◌≡◌, ◌+◌, true, length}
 use Rattle.stale_model.specs.Operations.{operations}
 use Rattle.cert_checker.specs.RefutationSteps.{IsWriteRecord, HaveMark}
 use Rattle.cert_checker.proofs.Marks.{IsGoodTo}
-use Rattle.cert_checker.proofs.refutations.members_of.Given as goal
+use Rattle.cert_checker.proofs.refutations.first_stranger.Given as goal
 
 abbrev pub invariant-loop-rec : goal.invariant-loop-rec
 invariant-loop-rec l = record {

@@ -1,7 +1,7 @@
 use Rattle.std.proofs.Common.{◌≡◌, ◌+◌, length}
 use Rattle.stale_model.specs.Operations.{operations}
 use Rattle.cert_checker.specs.RefutationSteps.{AreSpans}
-use Rattle.cert_checker.proofs.refutations.spans_of.Given as goal
+use Rattle.cert_checker.proofs.refutations.fill_spans.Given as goal
 
 abbrev pub invariant-loop-op : goal.invariant-loop-op
 invariant-loop-op l = record {

@@ -3,14 +3,14 @@ use Rattle.std.proofs.lemmas.List.{length-set}
 use Rattle.stale_model.specs.Operations.{operations}
 use Rattle.cert_checker.proofs.InOrder.{no_op}
 use Rattle.cert_checker.proofs.WriteStarts.{starts_first, taken_here, next_read, next_write, starts_all}
-use Rattle.cert_checker.proofs.faults.writes_of.Goals as goal
-use Rattle.cert_checker.proofs.faults.writes_of.Goals.{in-Read-default, in-Write-None}
+use Rattle.cert_checker.proofs.faults.first_duplicate.Goals as goal
+use Rattle.cert_checker.proofs.faults.first_duplicate.Goals.{in-Read-default, in-Write-None}
 
 pub loop-op-init : goal.loop-op-init
 loop-op-init c = record {
   ops = c.as_slice-op-items.ensures;
   size = search rules;
-  slots = starts_first (operations c.args.key.now) c.in_ok-starts.starts.items (length c.args.key.now.values) c.earliest_start.result refl (search rules) c.earliest_start.ensures;
+  slots = starts_first (operations c.args.key.now) c.refill.new.list.items (length c.args.key.now.values) c.earliest_start.result refl (search rules) c.earliest_start.ensures;
 }
 
 pub returns-in-Write-Some : goal.returns-in-Write-Some

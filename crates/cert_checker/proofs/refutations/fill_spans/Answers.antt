@@ -11,16 +11,16 @@ use Rattle.cert_checker.proofs.InOrder.{no_op}
 use Rattle.cert_checker.proofs.Lookups.{later, in_slots}
 use Rattle.stale_model.proofs.Places.{contains_at}
 use Rattle.cert_checker.proofs.Spans.{no_times, first_spans, spans_more}
-use Rattle.cert_checker.proofs.refutations.spans_of.Goals as goal
+use Rattle.cert_checker.proofs.refutations.fill_spans.Goals as goal
 
 pub loop-op-init : goal.loop-op-init
 loop-op-init c =
     let slots = length c.as_slice.result.now + 1 in
-    let all : c.in_ok-spans.spans.items ≡ replicate slots no_times = search rules in
+    let all : c.refill.new.list.items ≡ replicate slots no_times = search rules in
     record {
       size = search rules;
-      spans = subst (λ (s : Span). AreSpans (operations c.args.key.now) 1 (set c.in_ok-spans.spans.items 0 s)) (sym c.with.ensures)
-          (first_spans c.args.key.now slots c.in_ok-spans.spans.items (omega arith) all);
+      spans = subst (λ (s : Span). AreSpans (operations c.args.key.now) 1 (set c.refill.new.list.items 0 s)) (sym c.with.ensures)
+          (first_spans c.args.key.now slots c.refill.new.list.items (omega arith) all);
     }
 
 pub loop-op-preserved : goal.loop-op-preserved

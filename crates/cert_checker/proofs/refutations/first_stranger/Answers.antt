@@ -1,11 +1,10 @@
-use Rattle.std.proofs.Common.{rules, ◌≡◌, ◌⊎◌, inl, inr, ◌<◌, ℕ, Bool, true, List, length, get_or, refl, ◌∙◌, subst, arith, true≢false}
+use Rattle.std.proofs.Common.{rules, inl, inr, ◌<◌, ℕ, Bool, true, List, length, get_or, refl, ◌∙◌, subst, arith, true≢false}
 use Rattle.std.proofs.lemmas.List.{length-set}
 use Rattle.std.proofs.lemmas.Option.{slice_get-get_or, slice_get_read}
 use Rattle.stale_model.specs.declared.Op.{Op}
 use Rattle.stale_model.specs.declared.KeyOps.{KeyOps}
-use Rattle.stale_model.specs.Operations.{operations, IsWrite}
+use Rattle.stale_model.specs.Operations.{operations}
 use Rattle.stale_model.specs.Orders.{StandsAt}
-use Rattle.stale_model.specs.Refutations.{IsOfRecord}
 use Rattle.stale_model.proofs.Places.{same_at}
 use Rattle.model_laws.proofs.Named.{matched_keys_name_their_writes}
 use Rattle.cert_checker.specs.OrderFaults.{StandsTo}
@@ -13,11 +12,10 @@ use Rattle.cert_checker.specs.RefutationSteps.{IsWrittenBy, IsWriteRecord, Finds
 use Rattle.cert_checker.proofs.Marks.{good_more}
 use Rattle.cert_checker.proofs.Written.{mark_more}
 use Rattle.cert_checker.proofs.MemberMarks.{written_in_slots, write_record, first_stranger, members_to_end}
-use Rattle.cert_checker.proofs.refutations.members_of.Goals.{in_default-via-in-Some+else-not-index, in_default-via-in_default}
-use Rattle.cert_checker.proofs.refutations.members_of.Goals as goal
+use Rattle.cert_checker.proofs.refutations.first_stranger.Goals as goal
 
 pub returns-in_default : goal.returns-in_default
-returns-in_default c = first_stranger ops stuck n c.loop-rec.invariant.good rec (slice_get-get_or stuck n 0 c.loop-rec-test.true) why
+returns-in_default c = first_stranger ops stuck n c.loop-rec.invariant.good rec (slice_get-get_or stuck n 0 c.loop-rec-test.true) (inr marked)
   where
     ops : List Op
     ops = operations c.args.key.now
@@ -31,18 +29,28 @@ returns-in_default c = first_stranger ops stuck n c.loop-rec.invariant.good rec 
     rec : ℕ
     rec = get_or stuck n 0
 
-    marked : (value : ℕ) (r : Bool) → IsWrittenBy ops value rec → r ≡ get_or c.loop-rec.marks.items value r → r ≡ true → StandsTo stuck n rec
-    marked value r by read e =
-        let low = written_in_slots c.args.key.now value rec c.requires.valid by in
-        let size = c.loop-rec.invariant.size in
-        c.loop-rec.invariant.marked.only value rec by
-        (subst (λ x. StandsAt c.loop-rec.marks.items value x) e (slice_get_read c.loop-rec.marks.items (length c.loop-rec.marks.items) value r refl (omega arith) read))
+    value : ℕ
+    value = c.in-Some.value
 
-    why : ((w : Op) → IsOfRecord ops rec w → IsWrite w → ⊥) ⊎ StandsTo stuck n rec
-    why = elim c.in_default.branch [
-      | in_default-via-in-Some+else-not-index w ↦ inr (marked w.in-Some.value w.index.result.now (subst (FindsWritten ops rec) w.in-Some.is c.written_value.ensures) w.index.ensures w.if-not-index.false)
-      | in_default-via-in_default w ↦ inl (subst (FindsWritten ops rec) w.in_default.is c.written_value.ensures)
-    ]
+    marks : List Bool
+    marks = c.loop-rec.marks.items
+
+    by : IsWrittenBy ops value rec
+    by = subst (FindsWritten ops rec) c.in-Some.is c.written_value.ensures
+
+    wide : value < length marks
+    wide = let low = written_in_slots c.args.key.now value rec c.requires.valid by in let size = c.loop-rec.invariant.size in omega arith
+
+    marked : StandsTo stuck n rec
+    marked =
+        c.loop-rec.invariant.marked.only value rec by
+        (subst (StandsAt marks value) c.if-not-index.false (slice_get_read marks (length marks) value c.index.result.now refl wide c.index.ensures))
+
+pub returns-in_default-2 : goal.returns-in_default-2
+returns-in_default-2 c =
+    first_stranger (operations c.args.key.now) c.args.stuck.now c.loop-rec.rec-index c.loop-rec.invariant.good (get_or c.args.stuck.now c.loop-rec.rec-index 0)
+    (slice_get-get_or c.args.stuck.now c.loop-rec.rec-index 0 c.loop-rec-test.true)
+    (inl (subst (FindsWritten (operations c.args.key.now) (get_or c.args.stuck.now c.loop-rec.rec-index 0)) c.in_default.is c.written_value.ensures))
 
 pub loop-rec-preserved : goal.loop-rec-preserved
 loop-rec-preserved c = record {

@@ -1,7 +1,7 @@
 use Rattle.std.proofs.Common.{◌≡◌, ◌+◌, length}
 use Rattle.stale_model.specs.Operations.{operations}
 use Rattle.cert_checker.proofs.WriteStarts.{AreStartsTo}
-use Rattle.cert_checker.proofs.faults.writes_of.Given as goal
+use Rattle.cert_checker.proofs.faults.first_duplicate.Given as goal
 
 abbrev pub invariant-loop-op : goal.invariant-loop-op
 invariant-loop-op l = record {
