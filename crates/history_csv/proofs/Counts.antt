@@ -9,9 +9,10 @@ use Rattle.std.specs.Str.{bytes_eq}
 use Rattle.stale_model.specs.declared.KeyOps.{KeyOps}
 use Rattle.history_csv.specs.Entries.{Entry}
 use Rattle.history_csv.specs.Numbering.{distinct, entries_on, history_of, is_skipped, kept, key_ops, keys_of, op_of, values_of}
+use Rattle.history_csv.specs.Parting.{names_in}
 use Rattle.history_csv.proofs.Distinct.{any-distinct, bytes_eq-flip, bytes_eq-itself, same_text}
 use Rattle.history_csv.proofs.HistoryFacts.{history-keys, history-records, history-skipped}
-use Rattle.history_csv.proofs.MapFacts.{IsDistinct-distinct, names_of}
+use Rattle.history_csv.proofs.MapFacts.{IsDistinct-distinct}
 
 sum-zero : {X : Type 0} (xs : List X) → sum_by (λ _. 0) xs ≡ 0
 sum-zero [] = refl
@@ -68,27 +69,28 @@ counts-on ns d (e ∷ es) all =
     let rest = counts-on ns d es all.1 in
     split ∙ sum-plus (λ n. one_if (bytes_eq n e.key)) (λ n. count_by (λ (x : Entry). bytes_eq n x.key) es) ns ∙ rw (one, rest) (omega arith)
 
-any-name : (e : Entry) (front es : List Entry) → list_any (bytes_eq e.key) (names_of (front ++ e ∷ es)) ≡ true
+any-name : (e : Entry) (front es : List Entry) → list_any (bytes_eq e.key) (names_in (front ++ e ∷ es)) ≡ true
 any-name e [] es = rw (bytes_eq-itself e.key) refl
 any-name e (x ∷ front) es = elim (cases_Bool (bytes_eq e.key x.key)) [
   | inl h ↦ rw h refl
   | inr h ↦ rw h (any-name e front es)
 ]
 
-each-named : (front es : List Entry) → AllByRecursion (λ e. list_any (bytes_eq e.key) (distinct (names_of (front ++ es))) ≡ true) es
+-- the name of each entry is among the distinct names, where more entries come before them
+pub each-named : (front es : List Entry) → AllByRecursion (λ e. list_any (bytes_eq e.key) (distinct (names_in (front ++ es))) ≡ true) es
 each-named front [] = tt
 each-named front (e ∷ es) =
-    let here = any-distinct e.key (names_of (front ++ e ∷ es)) ∙ any-name e front es in
+    let here = any-distinct e.key (names_in (front ++ e ∷ es)) ∙ any-name e front es in
     let rest = each-named (front ++ e ∷ []) es in
     (here, rw (append_assoc front (e ∷ []) es) at rest)
 
 -- the keys have one operation for each entry
 pub ops-as-many : (es : List Entry) → sum_by (λ key. length key.ops) (keys_of es) ≡ length es
 ops-as-many es =
-    let ns = distinct (names_of es) in
+    let ns = distinct (names_in es) in
     sum-of-map (λ (k : KeyOps). length k.ops) (key_ops es) ns
     ∙ sum-same _ _ (λ n. length-map (entries_on n es) (op_of (values_of (entries_on n es))) ∙ length-filter (λ (e : Entry). bytes_eq n e.key) es) ns
-    ∙ counts-on ns (IsDistinct-distinct (names_of es)) es (each-named [] es)
+    ∙ counts-on ns (IsDistinct-distinct (names_in es)) es (each-named [] es)
 
 -- and each record leaves an operation or was skipped
 pub skipped-and-kept : (es : List Entry) → (history_of es).skipped + sum_by (λ key. length key.ops) (history_of es).keys ≡ (history_of es).records

@@ -6,21 +6,27 @@ use Rattle.history_csv.specs.declared.HistoryFault.{HistoryFault}
 use Rattle.history_csv.specs.declared.HistoryFault.TheVariants as fault
 use Rattle.history_csv.specs.declared.header.Columns.{Columns}
 use Rattle.history_csv.proofs.Places.{some_of}
+use Rattle.history_csv.specs.Blocks.{IsShort}
 use Rattle.history_csv.specs.Fault.{or_fault, then_next}
-use Rattle.history_csv.specs.Entries.{Entry, behind, client_of, entries_from, entry_of, field, finish_after, finish_of, greatest_tick, key_of, kind_of, most_records, number_of, number_within, slack_at, slack_of, tick_of, value_of}
+use Rattle.history_csv.specs.Parting.{Rise}
+use Rattle.stale_model.specs.declared.Kind.{Kind}
+use Rattle.stale_model.specs.declared.Kind.TheVariants.{Read, Write}
+use Rattle.std.specs.List.{AllByRecursion}
+use Rattle.history_csv.specs.Entries.{Entry, behind, client_of, entries_from, entry_of, field, text_of, finish_after, finish_of, greatest_tick, key_of, kind_of, most_records, number_of, number_within, slack_at, slack_of, tick_of, value_of}
 
 -- a finish that some tick says
 pub record IsFinish (start finish : ℕ) : Type 0 where
   pub after : start ≤ finish
   pub tick : finish < 2 ^ 62
 
--- an entry with this number, whose ticks and slack are within their bounds
+-- an entry with this number, whose ticks, slack and texts are within their bounds
 pub record IsSaid (rec : ℕ) (e : Entry) : Type 0 where
   pub numbered : e.rec ≡ rec
   pub starts : 1 ≤ e.start
   pub start_tick : e.start < 2 ^ 62
   pub finish : IfSome e.finish (IsFinish e.start)
   pub slack : e.slack < 2 ^ 62
+  pub short : IsShort e
 
 ok-of-fault : {X Y : Type 0} (fault : HistoryFault) (o : Option X) (next : X → Result Y HistoryFault) (y : Y) → or_fault fault o next ≡ Ok y → (x : X) × (o ≡ Some x) × (next x ≡ Ok y)
 ok-of-fault fault None next y e = cc
@@ -75,6 +81,21 @@ slack-at-bound : (place : Option ℕ) (fields : List (List ℕ)) (n : ℕ) → s
 slack-at-bound None fields n e = let same : 0 ≡ n = some_of 0 n e in omega arith
 slack-at-bound (Some place) fields n e = slack-bound (field fields place) n e
 
+text-short : (least most : ℕ) (text t : List ℕ) → text_of least most text ≡ Some t → length t ≤ most
+text-short least most text t e = elim (cases_Bool (nat_le least (length text))) [
+  | inr low ↦ let none = rw low at e in cc
+  | inl low ↦ elim (cases_Bool (nat_le (length text) most)) [
+    | inr high ↦ let none = rw (low, high) at e in cc
+    | inl high ↦
+        let same : text ≡ t = some_of text t (rw (low, high) at e) in
+        rw (← same) (leb-true (length text) most high)
+  ]
+]
+
+value-short : (kind : Kind) (text t : List ℕ) → value_of kind text ≡ Some t → length t ≤ 256
+value-short Read text t e = text-short 0 256 text t e
+value-short Write text t e = text-short 1 256 text t e
+
 pub entry-said : (columns : Columns) (rec : ℕ) (fields : List (List ℕ)) (e : Entry) → entry_of columns rec fields ≡ Ok e → IsSaid rec e
 unfolding entry_of
 entry-said columns rec fields e said =
@@ -82,8 +103,8 @@ entry-said columns rec fields e said =
     let (_, _, s0) = ok-of-fault (fault.Fields rec) (if length fields == columns.fields then Some fields else None) _ e said in
     let (kind, _, s1) = ok-of-fault (fault.Op rec) (kind_of (text columns.op)) _ e s0 in
     let (client, _, s2) = ok-of-fault (fault.Client rec) (client_of (text columns.client)) _ e s1 in
-    let (key, _, s3) = ok-of-fault (fault.Key rec) (key_of (text columns.key)) _ e s2 in
-    let (value, _, s4) = ok-of-fault (fault.Value rec) (value_of kind (text columns.value)) _ e s3 in
+    let (key, key_is, s3) = ok-of-fault (fault.Key rec) (key_of (text columns.key)) _ e s2 in
+    let (value, value_is, s4) = ok-of-fault (fault.Value rec) (value_of kind (text columns.value)) _ e s3 in
     let (start, start_is, s5) = ok-of-fault (fault.Time rec) (tick_of (text columns.start)) _ e s4 in
     let (tick, tick_is, s6) = ok-of-fault (fault.Time rec) (finish_of (text columns.finish)) _ e s5 in
     let (finish, finish_is, s7) = ok-of-fault (fault.Backwards rec) (finish_after start tick) _ e s6 in
@@ -96,12 +117,22 @@ entry-said columns rec fields e said =
       start_tick = ticks.1;
       finish = finish-after start (field fields columns.finish) tick finish tick_is finish_is;
       slack = slack-at-bound columns.slack fields slack slack_is;
+      short = record { key = text-short 1 256 (text columns.key) key key_is; value = value-short kind (text columns.value) value value_is };
     })
 
 -- entries numbered from rec on
 abbrev pub AreSaid : ℕ → List Entry → Type 0
 AreSaid rec [] = Unit {0}
 AreSaid rec (e ∷ es) = IsSaid rec e × AreSaid (rec + 1) es
+
+later-said : (before rec : ℕ) (es : List Entry) → before < rec → AreSaid rec es → AllByRecursion (λ e. before < e.rec) es
+later-said before rec [] low said = tt
+later-said before rec (e ∷ es) low said = let is = said.0.numbered in (omega arith, later-said before (rec + 1) es (omega arith) said.1)
+
+-- the records of entries rise
+pub rise-said : (rec : ℕ) (es : List Entry) → AreSaid rec es → Rise es
+rise-said rec [] said = tt
+rise-said rec (e ∷ es) said = let is = said.0.numbered in (later-said e.rec (rec + 1) es (omega arith) said.1, rise-said (rec + 1) es said.1)
 
 -- what the entries of records show
 pub record AreEntries (rec : ℕ) (records : List (List (List ℕ))) (es : List Entry) : Type 0 where

@@ -8,9 +8,9 @@ use Rattle.history_csv.specs.Entries.{Entry, most_records}
 use Rattle.history_csv.specs.Laws.{IsWithinBounds, RecordsAreFew}
 use Rattle.history_csv.specs.Numbering.{distinct, entries_on, history_of, is_skipped, kept, key_ops, op_of, values_of}
 use Rattle.history_csv.specs.Reading.{read_of, records_of}
+use Rattle.history_csv.specs.Parting.{names_in}
 use Rattle.history_csv.proofs.EntryFacts.{AreEntries, AreSaid}
 use Rattle.history_csv.proofs.HistoryFacts.{history-keys}
-use Rattle.history_csv.proofs.MapFacts.{names_of}
 use Rattle.history_csv.proofs.ValidFacts.{history-shows, history-valid}
 
 -- the record of an entry is at most a million
@@ -41,7 +41,7 @@ history-low : (records : List (List (List ℕ))) (es : List Entry) → AreEntrie
 history-low records es are =
     let stays : Entry → Bool = λ e. not (is_skipped e) in
     let low = All-filter stays IsLow es (all-low 1 es are.few are.said) in
-    let names = distinct (names_of (kept es)) in
+    let names = distinct (names_in (kept es)) in
     rw (history-keys es) (All-map IsLowKey (key_ops (kept es)) names (λ k d h. key-low (kept es) (get_or names k d) low))
 
 pub within_bounds : RecordsAreFew

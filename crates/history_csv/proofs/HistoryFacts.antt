@@ -15,6 +15,11 @@ history-empty = refl
 same_history : (a b : History) → a.keys ≡ b.keys → a.records ≡ b.records → a.skipped ≡ b.skipped → a ≡ b
 same_history a b keys records skipped = λ i. record { keys = keys i; records = records i; skipped = skipped i }
 
+-- a history that is made of the keys of entries
+pub history-is : (es : List Entry) (h : History) → h.keys ≡ keys_of (kept es) → h.records ≡ length es → h.skipped ≡ count_by is_skipped es → h ≡ history_of es
+unfolding history_of
+history-is es h keys records skipped = same_history h (history_of es) keys records skipped
+
 -- the parts of a history
 pub history-keys : (es : List Entry) → (history_of es).keys ≡ keys_of (kept es)
 unfolding history_of

@@ -28,14 +28,14 @@ values-push es e = ap (λ vs. distinct (filter is_filled vs)) (map_push (λ (x :
 
 -- ---- a number stays where more values come
 
-position-stays : {X : Type 0} (p : X → Bool) (xs : List X) (y : X) → list_any p xs ≡ true → position_or_len p (xs ++ y ∷ []) ≡ position_or_len p xs
+pub position-stays : {X : Type 0} (p : X → Bool) (xs : List X) (y : X) → list_any p xs ≡ true → position_or_len p (xs ++ y ∷ []) ≡ position_or_len p xs
 position-stays p [] y h = cc
 position-stays p (x ∷ xs) y h = elim (cases_Bool (p x)) [
   | inl e ↦ rw e refl
   | inr e ↦ rw (e, position-stays p xs y (rw e at h)) refl
 ]
 
-position-of-last : {X : Type 0} (p : X → Bool) (xs : List X) (y : X) → p y ≡ true → position_or_len p (xs ++ y ∷ []) ≡ position_or_len p xs
+pub position-of-last : {X : Type 0} (p : X → Bool) (xs : List X) (y : X) → p y ≡ true → position_or_len p (xs ++ y ∷ []) ≡ position_or_len p xs
 position-of-last p [] y h = rw h refl
 position-of-last p (x ∷ xs) y h = elim (cases_Bool (p x)) [
   | inl e ↦ rw e refl

@@ -9,6 +9,10 @@ pub mod KeyFacts
 pub mod MapFacts
 pub mod MapShown
 pub mod MapSteps
+pub mod PartedKeys
+pub mod BlockFacts
+pub mod PartFacts
+pub mod PartsFacts
 pub mod HistoryFacts
 pub mod ReadSteps
 pub mod EntryFacts

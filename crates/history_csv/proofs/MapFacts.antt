@@ -9,13 +9,10 @@ use Rattle.stale_model.specs.declared.KeyOps.{KeyOps}
 use Rattle.history_csv.specs.Entries.{Entry}
 use Rattle.history_csv.specs.Numbering.{contents_of, distinct, entries_on, key_ops, keys_of, named}
 use Rattle.history_csv.specs.Building.{with_key, with_text}
+use Rattle.history_csv.specs.Parting.{names_in}
 use Rattle.history_csv.proofs.Distinct.{any-distinct, bytes_eq-flip, bytes_eq-itself, distinct-push, same_text}
 use Rattle.history_csv.proofs.KeyFacts.{map-agree}
 use Rattle.history_csv.proofs.Places.{list_any-map, position_or_len-map}
-
--- the names of the keys of entries
-abbrev pub names_of : List Entry → List (List ℕ)
-names_of entries = map (λ entry. entry.key) entries
 
 -- ---- distinct names differ
 
@@ -54,20 +51,20 @@ entries-on-other es e n differs = filter-append (λ (x : Entry). bytes_eq n x.ke
 pub entries-on-own : (es : List Entry) (e : Entry) → entries_on e.key (es ++ e ∷ []) ≡ entries_on e.key es ++ e ∷ []
 entries-on-own es e = filter-append (λ (x : Entry). bytes_eq e.key x.key) es (e ∷ []) ∙ rw (bytes_eq-itself e.key) refl
 
-entries-on-none : (es : List Entry) (n : List ℕ) → list_any (bytes_eq n) (names_of es) ≡ false → entries_on n es ≡ []
+entries-on-none : (es : List Entry) (n : List ℕ) → list_any (bytes_eq n) (names_in es) ≡ false → entries_on n es ≡ []
 entries-on-none [] n none = refl
 entries-on-none (e ∷ es) n none = elim (cases_Bool (bytes_eq n e.key)) [
   | inl h ↦ let no = rw h at none in cc
   | inr h ↦ let rest = entries-on-none es n (rw h at none) in rw h rest
 ]
 
-key-other : (es : List Entry) (e : Entry) (n : List ℕ) → bytes_eq n e.key ≡ false → key_ops (es ++ e ∷ []) n ≡ key_ops es n
+pub key-other : (es : List Entry) (e : Entry) (n : List ℕ) → bytes_eq n e.key ≡ false → key_ops (es ++ e ∷ []) n ≡ key_ops es n
 key-other es e n differs = ap (λ l. named n (contents_of l)) (entries-on-other es e n differs)
 
 -- ---- the place of a name among keys that are made of distinct names
 
 -- a list of keys made of names by g, where f makes the same keys of all names but k
-set-there : (f g : List ℕ → KeyOps) (k : List ℕ) → ((n : List ℕ) → bytes_eq n k ≡ false → g n ≡ f n) → (ns : List (List ℕ)) → IsDistinct bytes_eq ns → list_any (bytes_eq k) ns ≡ true
+pub set-there : (f g : List ℕ → KeyOps) (k : List ℕ) → ((n : List ℕ) → bytes_eq n k ≡ false → g n ≡ f n) → (ns : List (List ℕ)) → IsDistinct bytes_eq ns → list_any (bytes_eq k) ns ≡ true
     → map g ns ≡ set (map f ns) (position_or_len (bytes_eq k) ns) (g k)
 unfolding IsDistinct
 set-there f g k same [] d there = cc
@@ -95,7 +92,7 @@ set-new f g k same (n ∷ ns) new x = elim (cases_Bool (bytes_eq k n)) [
       rw (e, next, first, rest) refl
 ]
 
-get-there : (f : List ℕ → KeyOps) (k : List ℕ) (ns : List (List ℕ)) → list_any (bytes_eq k) ns ≡ true → slice_get (map f ns) (position_or_len (bytes_eq k) ns) ≡ Some (f k)
+pub get-there : (f : List ℕ → KeyOps) (k : List ℕ) (ns : List (List ℕ)) → list_any (bytes_eq k) ns ≡ true → slice_get (map f ns) (position_or_len (bytes_eq k) ns) ≡ Some (f k)
 get-there f k [] there = cc
 get-there f k (n ∷ ns) there = elim (cases_Bool (bytes_eq k n)) [
   | inl e ↦ rw e (ap (λ m. Some (f m)) (sym (same_text k n e)))
@@ -123,33 +120,33 @@ is_named name key = bytes_eq name key.name
 abbrev pub key_place : List Entry → List ℕ → ℕ
 key_place es k = position_or_len (is_named k) (keys_of es)
 
-place-of-name : (es : List Entry) (k : List ℕ) → key_place es k ≡ position_or_len (bytes_eq k) (distinct (names_of es))
-place-of-name es k = position_or_len-map (is_named k) (key_ops es) (distinct (names_of es))
+place-of-name : (es : List Entry) (k : List ℕ) → key_place es k ≡ position_or_len (bytes_eq k) (distinct (names_in es))
+place-of-name es k = position_or_len-map (is_named k) (key_ops es) (distinct (names_in es))
 
-any-of-name : (es : List Entry) (k : List ℕ) → list_any (is_named k) (keys_of es) ≡ list_any (bytes_eq k) (distinct (names_of es))
-any-of-name es k = list_any-map (is_named k) (key_ops es) (distinct (names_of es))
+any-of-name : (es : List Entry) (k : List ℕ) → list_any (is_named k) (keys_of es) ≡ list_any (bytes_eq k) (distinct (names_in es))
+any-of-name es k = list_any-map (is_named k) (key_ops es) (distinct (names_in es))
 
-names-push : (es : List Entry) (e : Entry) → distinct (names_of (es ++ e ∷ [])) ≡ with_text (distinct (names_of es)) e.key
-names-push es e = ap distinct (map_push (λ (x : Entry). x.key) es e) ∙ distinct-push (names_of es) e.key
+pub names-push : (es : List Entry) (e : Entry) → distinct (names_in (es ++ e ∷ [])) ≡ with_text (distinct (names_in es)) e.key
+names-push es e = ap distinct (map_push (λ (x : Entry). x.key) es e) ∙ distinct-push (names_in es) e.key
 
 -- the key of a new name holds nothing
-new-key : (es : List Entry) (k : List ℕ) → list_any (bytes_eq k) (distinct (names_of es)) ≡ false → key_ops es k ≡ named k (contents_of [])
-new-key es k none = ap (λ l. named k (contents_of l)) (entries-on-none es k (sym (any-distinct k (names_of es)) ∙ none))
+new-key : (es : List Entry) (k : List ℕ) → list_any (bytes_eq k) (distinct (names_in es)) ≡ false → key_ops es k ≡ named k (contents_of [])
+new-key es k none = ap (λ l. named k (contents_of l)) (entries-on-none es k (sym (any-distinct k (names_in es)) ∙ none))
 
 -- the key of the next entry, before it
 pub key-before : (es : List Entry) (k : List ℕ) → slice_get (with_key (keys_of es) k) (key_place es k) ≡ Some (key_ops es k)
-key-before es k = elim (cases_Bool (list_any (bytes_eq k) (distinct (names_of es)))) [
-  | inl h ↦ rw (any-of-name es k, h, place-of-name es k) (get-there (key_ops es) k (distinct (names_of es)) h)
-  | inr h ↦ rw (any-of-name es k, h, place-of-name es k, new-key es k h) (get-new (key_ops es) k (distinct (names_of es)) h (named k (contents_of [])))
+key-before es k = elim (cases_Bool (list_any (bytes_eq k) (distinct (names_in es)))) [
+  | inl h ↦ rw (any-of-name es k, h, place-of-name es k) (get-there (key_ops es) k (distinct (names_in es)) h)
+  | inr h ↦ rw (any-of-name es k, h, place-of-name es k, new-key es k h) (get-new (key_ops es) k (distinct (names_in es)) h (named k (contents_of [])))
 ]
 
 -- and after it
 pub keys-push : (es : List Entry) (e : Entry) → keys_of (es ++ e ∷ []) ≡ set (with_key (keys_of es) e.key) (key_place es e.key) (key_ops (es ++ e ∷ []) e.key)
-keys-push es e = elim (cases_Bool (list_any (bytes_eq e.key) (distinct (names_of es)))) [
+keys-push es e = elim (cases_Bool (list_any (bytes_eq e.key) (distinct (names_in es)))) [
   | inl h ↦
-      let names : distinct (names_of (es ++ e ∷ [])) ≡ distinct (names_of es) = names-push es e ∙ rw h refl in
-      rw (names, any-of-name es e.key, h, place-of-name es e.key) (set-there (key_ops es) (key_ops (es ++ e ∷ [])) e.key (key-other es e) (distinct (names_of es)) (IsDistinct-distinct (names_of es)) h)
+      let names : distinct (names_in (es ++ e ∷ [])) ≡ distinct (names_in es) = names-push es e ∙ rw h refl in
+      rw (names, any-of-name es e.key, h, place-of-name es e.key) (set-there (key_ops es) (key_ops (es ++ e ∷ [])) e.key (key-other es e) (distinct (names_in es)) (IsDistinct-distinct (names_in es)) h)
   | inr h ↦
-      let names : distinct (names_of (es ++ e ∷ [])) ≡ distinct (names_of es) ++ e.key ∷ [] = names-push es e ∙ rw h refl in
-      rw (names, any-of-name es e.key, h, place-of-name es e.key) (set-new (key_ops es) (key_ops (es ++ e ∷ [])) e.key (key-other es e) (distinct (names_of es)) h (named e.key (contents_of [])))
+      let names : distinct (names_in (es ++ e ∷ [])) ≡ distinct (names_in es) ++ e.key ∷ [] = names-push es e ∙ rw h refl in
+      rw (names, any-of-name es e.key, h, place-of-name es e.key) (set-new (key_ops es) (key_ops (es ++ e ∷ [])) e.key (key-other es e) (distinct (names_in es)) h (named e.key (contents_of [])))
 ]

@@ -2,27 +2,27 @@
 use Rattle.std.proofs.Common.{◌≡◌, ℕ, ◌+◌, ◌<◌, ◌≤◌, List, [], ◌∷◌, ◌++◌, length, Result, Ok, Err, refl, sym, ◌∙◌, ap, inl, inr, arith, nat_lt}
 use Rattle.std.proofs.lemmas.Bool.{cases_Bool, lt-ltb, le-ltb}
 use Rattle.std.proofs.lemmas.List.{append_assoc, append-nil, length_push}
-use Rattle.stale_model.specs.declared.History.{History}
 use Rattle.history_csv.specs.declared.HistoryFault.{HistoryFault}
 use Rattle.history_csv.specs.declared.HistoryFault.TheVariants.{Records}
 use Rattle.history_csv.specs.declared.header.Columns.{Columns}
 use Rattle.history_csv.specs.Fault.{then_next}
 use Rattle.history_csv.specs.Header.{columns_of}
 use Rattle.history_csv.specs.Entries.{Entry, behind, entries_from, entry_of, most_records}
-use Rattle.history_csv.specs.Numbering.{history_of}
+use Rattle.history_csv.specs.declared.builder.Builder.{Builder}
+use Rattle.history_csv.specs.Made.{Makes, TookAll}
 use Rattle.history_csv.specs.Reading.{history_after, history_of_records, read_of, records_of}
 use Rattle.history_csv.specs.Records.{BytesReader, TookWell, WantsMemory, records_left}
 use Rattle.history_csv.proofs.EntryFacts.{behind-one, ok-of-next, ok_of}
 
--- the records before number rec were taken, with no fault, these are left of all, and the history is theirs
-pub record ReadSoFar (columns : Columns) (rec : ℕ) (left all : List (List (List ℕ))) (history : History) : Type 0 where
+-- the records before number rec were taken, with no fault, these are left of all, and their entries were taken
+pub record ReadSoFar (columns : Columns) (rec : ℕ) (left all : List (List (List ℕ))) (builder : Builder) : Type 0 where
   pub taken : List (List (List ℕ))
   pub entries : List Entry
   pub all_are : all ≡ taken ++ left
   pub faultless : entries_from columns 1 taken ≡ Ok entries
   pub numbered : length taken + 1 ≡ rec
   pub counted : length entries + 1 ≡ rec
-  pub history_is : history ≡ history_of entries
+  pub made : Makes builder entries
 
 behind-nil : (r : Result (List Entry) HistoryFault) → behind [] r ≡ r
 behind-nil (Ok entries) = refl
@@ -63,7 +63,7 @@ entries-append columns rec next (fields ∷ front) back es at said = elim (cases
       rw (few, e_is, rest) (behind-behind (e ∷ []) more (entries_from columns next back) ∙ ap (λ l. behind l (entries_from columns next back)) es_is)
 ]
 
-module _ {columns : Columns} {rec : ℕ} {left all : List (List (List ℕ))} {history : History} (so_far : ReadSoFar columns rec left all history) where
+module _ {columns : Columns} {rec : ℕ} {left all : List (List (List ℕ))} {builder : Builder} (so_far : ReadSoFar columns rec left all builder) where
   -- all entries, by those of the records that are left
   whole : entries_from columns 1 all ≡ behind so_far.entries (entries_from columns rec left)
   whole =
@@ -71,10 +71,10 @@ module _ {columns : Columns} {rec : ℕ} {left all : List (List (List ℕ))} {hi
       rw so_far.all_are (entries-append columns 1 rec so_far.taken left so_far.entries (omega arith) so_far.faultless)
 
   -- the end
-  pub read-end : left ≡ [] → history_after columns all ≡ Ok history
+  pub read-end : left ≡ [] → TookAll columns all builder
   read-end none =
       let ends : entries_from columns 1 all ≡ Ok so_far.entries = whole ∙ rw (none, entries-nil columns rec, append-nil so_far.entries) refl in
-      rw (ends, so_far.history_is) refl
+      record { entries = so_far.entries; said = ends; made = so_far.made }
 
   module _ (fields : List (List ℕ)) (rest : List (List (List ℕ))) (next : left ≡ fields ∷ rest) where
     -- a record too many
@@ -90,8 +90,8 @@ module _ {columns : Columns} {rec : ℕ} {left all : List (List (List ℕ))} {hi
         rw fails refl
 
     -- one more entry
-    pub read-more : rec ≤ most_records → (entry : Entry) → Ok entry ≡ entry_of columns rec fields → (more : History) → more ≡ history_of (so_far.entries ++ entry ∷ []) → ReadSoFar columns (rec + 1) rest all more
-    read-more few entry said more is =
+    pub read-more : rec ≤ most_records → (entry : Entry) → Ok entry ≡ entry_of columns rec fields → (more : Builder) → Makes more (so_far.entries ++ entry ∷ []) → ReadSoFar columns (rec + 1) rest all more
+    read-more few entry said more made =
         let numbered = so_far.numbered in
         let counted = so_far.counted in
         let one : entries_from columns rec (fields ∷ []) ≡ Ok (entry ∷ []) = entries-next columns rec fields [] few ∙ rw (← said, entries-nil columns (rec + 1)) refl in
@@ -104,16 +104,16 @@ module _ {columns : Columns} {rec : ℕ} {left all : List (List (List ℕ))} {hi
           faultless = entries-append columns 1 rec so_far.taken (fields ∷ []) so_far.entries (omega arith) so_far.faultless ∙ rw one refl;
           numbered = omega arith;
           counted = omega arith;
-          history_is = is;
+          made = made;
         }
 
 -- the start
-pub read-start : (columns : Columns) (all : List (List (List ℕ))) (history : History) → history ≡ history_of [] → ReadSoFar columns 1 all all history
-read-start columns all history is = record { taken = []; entries = []; all_are = refl; faultless = entries-nil columns 1; numbered = refl; counted = refl; history_is = is }
+pub read-start : (columns : Columns) (all : List (List (List ℕ))) (builder : Builder) → Makes builder [] → ReadSoFar columns 1 all all builder
+read-start columns all builder made = record { taken = []; entries = []; all_are = refl; faultless = entries-nil columns 1; numbered = refl; counted = refl; made = made }
 
 -- the records that a reader took so far make a history
-pub took-well : (columns : Columns) (rec : ℕ) (old new : BytesReader) (history : History) → ReadSoFar columns rec (records_left new) (records_left old) history → TookWell (history_after columns) old new
-took-well columns rec old new history so_far = record { taken = so_far.taken; all = so_far.all_are; well = rw so_far.faultless refl }
+pub took-well : (columns : Columns) (rec : ℕ) (old new : BytesReader) (builder : Builder) → ReadSoFar columns rec (records_left new) (records_left old) builder → TookWell (history_after columns) old new
+took-well columns rec old new builder so_far = record { taken = so_far.taken; all = so_far.all_are; well = rw so_far.faultless refl }
 
 -- ---- the whole file
 

@@ -1,22 +1,38 @@
 -- Buffers seen as texts.
-use Rattle.std.proofs.Common.{◌≡◌, ℕ, zero, suc, ◌<◌, Bool, true, false, List, [], ◌∷◌, ◌++◌, Vec, Some, length, get_or, slice_get, refl, sym, ◌∙◌, arith}
+use Rattle.std.proofs.Common.{◌≡◌, ℕ, zero, suc, ◌<◌, Bool, true, false, List, [], ◌∷◌, ◌++◌, Vec, Some, length, map, get_or, slice_get, refl, sym, ◌∙◌, inl, inr, arith}
+use Rattle.std.proofs.lemmas.Bool.{cases_Bool}
 use Rattle.std.proofs.lemmas.List.{length-map, map-append}
 use Rattle.std.proofs.lemmas.Map.Keys.{apart_from_distinct}
-use Rattle.std.specs.List.{IsDistinct, list_any, position}
+use Rattle.std.specs.List.{IsDistinct, list_any, position, position_or_len}
 use Rattle.history_csv.proofs.Distinct.{bytes_eq-flip, same_text}
 use Rattle.std.specs.Str.{bytes_eq}
 use Rattle.indexmap.specs.IndexSet.{insert_key}
 use Rattle.history_csv.specs.Building.{texts_of, with_text}
 use Rattle.history_csv.proofs.Places.{list_any-map, position-at, position_or_len-map, some_of}
 
--- a copy of a new text, put into a set, puts the text to the end
-pub texts-insert : {A : Type 0} (keys new : List (Vec ℕ A)) (copy : Vec ℕ A) (text : List ℕ) → copy.items ≡ text → list_any (bytes_eq text) (texts_of keys) ≡ false
-    → new ≡ insert_key (λ x y. bytes_eq x.items y.items) keys copy → texts_of new ≡ with_text (texts_of keys) text
-texts-insert {A} keys new copy text same none_shown inserted =
-    let none : list_any (λ k. bytes_eq text k.items) keys ≡ false = sym (list_any-map (bytes_eq text) (λ (k : Vec ℕ A). k.items) keys) ∙ none_shown in
-    let none_of_copy : list_any (λ k. bytes_eq copy.items k.items) keys ≡ false = rw same none in
-    let last : new ≡ keys ++ copy ∷ [] = inserted ∙ rw none_of_copy refl in
-    rw (last, none_shown, map-append (λ (k : Vec ℕ A). k.items) keys (copy ∷ []), same) refl
+-- ---- a key that is put into a set, where keys are alike by their texts
+
+module _ {K : Type 0} (text : K → List ℕ) where
+  -- its text goes to the end, unless it is there already
+  pub insert-texts : (keys : List K) (k : K) → map text (insert_key (λ x y. bytes_eq (text x) (text y)) keys k) ≡ with_text (map text keys) (text k)
+  insert-texts keys k =
+      let any : list_any (bytes_eq (text k)) (map text keys) ≡ list_any (λ x. bytes_eq (text k) (text x)) keys = list_any-map (bytes_eq (text k)) text keys in
+      elim (cases_Bool (list_any (λ x. bytes_eq (text k) (text x)) keys)) [
+        | inl there ↦ rw (any, there) refl
+        | inr new ↦ rw (any, new) (map-append text keys (k ∷ []))
+      ]
+
+  -- its place is that of its text
+  pub insert-place : (keys : List K) (k : K) → position_or_len (λ x. bytes_eq (text k) (text x)) keys ≡ position_or_len (bytes_eq (text k)) (map text keys)
+  insert-place keys k = sym (position_or_len-map (bytes_eq (text k)) text keys)
+
+-- a copy of a text among buffers
+module _ {A : Type 0} (keys : List (Vec ℕ A)) (copy : Vec ℕ A) (t : List ℕ) (same : copy.items ≡ t) where
+  pub buffer-texts : texts_of (insert_key (λ x y. bytes_eq x.items y.items) keys copy) ≡ with_text (texts_of keys) t
+  buffer-texts = insert-texts (λ (k : Vec ℕ A). k.items) keys copy ∙ rw same refl
+
+  pub buffer-place : position_or_len (λ k. bytes_eq copy.items k.items) keys ≡ position_or_len (bytes_eq t) (texts_of keys)
+  buffer-place = insert-place (λ (k : Vec ℕ A). k.items) keys copy ∙ rw same refl
 
 -- the place of a text among the buffers is that among their texts
 pub position-texts : {A : Type 0} (keys : List (Vec ℕ A)) (text : List ℕ) → position (λ k. bytes_eq text k.items) keys ≡ position (bytes_eq text) (texts_of keys)

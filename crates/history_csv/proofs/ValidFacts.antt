@@ -18,11 +18,11 @@ use Rattle.history_csv.specs.Header.{columns_of}
 use Rattle.history_csv.specs.Reading.{history_after, history_of_records}
 use Rattle.history_csv.specs.Entries.{Entry, entries_from}
 use Rattle.history_csv.specs.Numbering.{distinct, entries_on, history_of, is_skipped, kept, key_ops, keys_of, never, op_of, ops_of, value_number, values_of}
+use Rattle.history_csv.specs.Parting.{names_in}
 use Rattle.history_csv.proofs.Counts.{ops-as-many}
 use Rattle.history_csv.proofs.EntryFacts.{entries-said, AreEntries, AreSaid, IsFinish, IsSaid}
 use Rattle.history_csv.proofs.HistoryFacts.{history-keys}
 use Rattle.history_csv.proofs.KeyFacts.{IsKnown, distinct-shorter, each-known, filter-shorter}
-use Rattle.history_csv.proofs.MapFacts.{names_of}
 use Rattle.history_csv.proofs.Places.{place-within}
 
 -- an entry whose ticks and slack are within their bounds
@@ -106,11 +106,11 @@ history-valid records es are =
     let stays : Entry → Bool = λ e. not (is_skipped e) in
     let good = All-filter stays IsGood es (all-good 1 es (omega arith) are.said) in
     let rise = AllPairs-filter IsEarlier stays es (all-rise 1 es are.said) in
-    let names = distinct (names_of (kept es)) in
+    let names = distinct (names_in (kept es)) in
     let fewer = filter-shorter stays es in
     let few = are.few in
-    let few_names = distinct-shorter (names_of (kept es)) in
-    let as_many_names : length (names_of (kept es)) ≡ length (kept es) = length-map (kept es) (λ (e : Entry). e.key) in
+    let few_names = distinct-shorter (names_in (kept es)) in
+    let as_many_names : length (names_in (kept es)) ≡ length (kept es) = length-map (kept es) (λ (e : Entry). e.key) in
     let as_many_keys : length (keys_of (kept es)) ≡ length names = length-map names (key_ops (kept es)) in
     let as_many_ops = ops-as-many (kept es) in
     record {

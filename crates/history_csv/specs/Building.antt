@@ -1,10 +1,12 @@
 -- What serves the code alone: where columns stand, and maps whose keys are texts, seen as lists of texts.
-use Rattle.std.specs.Prelude.{ℕ, ◌<◌, IfSome, if◌then◌else◌, List, [], ◌∷◌, ◌++◌, map, Vec}
+use Rattle.std.specs.Prelude.{ℕ, ◌<◌, IfSome, if◌then◌else◌, List, [], ◌∷◌, ◌++◌, map, Vec, unwrap_or}
 use Rattle.std.specs.List.{list_any}
 use Rattle.std.specs.Str.{bytes_eq}
 use Rattle.stale_model.specs.declared.KeyOps.{KeyOps}
+use Rattle.stale_model.specs.declared.Op.{Op}
+use Rattle.history_csv.specs.Entries.{Entry}
 use Rattle.history_csv.specs.declared.header.Columns.{Columns}
-use Rattle.history_csv.specs.Numbering.{Contents, contents_of, named, is_filled}
+use Rattle.history_csv.specs.Numbering.{Contents, contents_of, named, never, is_filled}
 
 -- each column stands within the fields of a record
 pub record StandsWithin (columns : Columns) : Type 0 where
@@ -15,6 +17,10 @@ pub record StandsWithin (columns : Columns) : Type 0 where
   pub start : columns.start < columns.fields
   pub finish : columns.finish < columns.fields
   pub slack : IfSome columns.slack (λ place. place < columns.fields)
+
+-- the operation of an entry whose value has this number
+abbrev pub op_numbered : ℕ → Entry → Op
+op_numbered value entry = record { rec = entry.rec; client = entry.client; kind = entry.kind; value = value; start = entry.start; finish = unwrap_or entry.finish never; slack = entry.slack }
 
 -- the texts of these buffers
 abbrev pub texts_of : {A : Type 0} → List (Vec ℕ A) → List (List ℕ)

@@ -3,6 +3,10 @@ pub mod Header
 pub mod Entries
 pub mod Numbering
 pub mod Building
+pub mod Blocks
+pub mod Parting
+pub mod Parted
+pub mod Made
 pub mod Records
 pub mod Reading
 pub mod Written

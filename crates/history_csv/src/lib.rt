@@ -4,23 +4,27 @@
 ghost use Rattle.std.specs.Prelude.{◌≡◌, ◌≢◌, ℕ, ◌+◌, ◌⊎◌, [], length, sum_by, IfOk, IfErr, OnOk};
 ghost use Rattle.stale_model.specs.Valid.{IsValidHistory};
 ghost use Rattle.history_csv.specs.Header.{IsColumn};
-ghost use Rattle.history_csv.specs.Numbering.{history_of};
 ghost use Rattle.history_csv.specs.Building.{StandsWithin};
+ghost use Rattle.history_csv.specs.Made.{Makes, TookAll};
 ghost use Rattle.history_csv.specs.Reading.{read_of, records_of, history_of_records, history_after};
 ghost use Rattle.history_csv.specs.Records.{IsReading, WantsMemory, records_left};
 
+mod blocks;
+mod builder;
 mod entry;
 mod header;
 mod laws;
 mod numbering;
+mod part_keys;
+mod parts;
 mod records;
 mod writing;
 
+use crate::builder::{Builder, has_many_keys};
 use crate::entry::entry_of;
 pub use crate::header::column_name;
 use crate::header::{Columns, columns_of};
 pub use crate::laws::{records_are_few, what_is_written_reads_back};
-use crate::numbering::HistoryBuilder;
 use crate::records::{read_next, reader_of};
 pub use crate::writing::write_history;
 use csv::{ByteRecord, Reader};
@@ -73,7 +77,7 @@ impl From<Memory> for HistoryFault {
 
 // Takes the records after the header into a history.
 fn take_records(
-    history: &mut HistoryBuilder,
+    history: &mut Builder,
     alloc: Global,
     columns: &Columns,
     reader: &mut Reader<&[u8]>,
@@ -81,9 +85,8 @@ fn take_records(
 ) -> Result<(), HistoryFault>
     requires reading { IsReading reader.old }
     requires within { StandsWithin columns.now }
-    requires empty { history.old ≡ history_of [] }
-    ensures takes { OnOk result
-        (history_after columns.now (records_left reader.old) ≡ Ok history.new) }
+    requires empty { Makes history.old [] }
+    ensures takes { OnOk result (TookAll columns.now (records_left reader.old) history.new) }
     ensures fault { IfErr result (λ fault. (fault ≡ HistoryFault.Memory)
         ⊎ (history_after columns.now (records_left reader.old) ≡ Err fault)) }
     ensures memory { result ≡ Err HistoryFault.Memory
@@ -106,6 +109,7 @@ fn take_records(
 // Reads all records, the first of which is the header.
 fn read_records(
     alloc: Global,
+    has_many_keys: bool,
     reader: &mut Reader<&[u8]>,
     row: &mut ByteRecord,
 ) -> Result<History, HistoryFault>
@@ -119,7 +123,7 @@ fn read_records(
         return Err(HistoryFault::NoHeader);
     }
     let columns = columns_of(row)?;
-    let mut history = HistoryBuilder::new(alloc);
+    let mut history = Builder::new(alloc, has_many_keys)?;
     take_records(&mut history, alloc, &columns, reader, row)?;
     Ok(history.finish(alloc)?)
 }
@@ -149,7 +153,7 @@ pub fn read_history(alloc: Global, bytes: &[u8]) -> Result<History, HistoryFault
 {
     let mut reader = reader_of(alloc, bytes);
     let mut row = ByteRecord::new(alloc);
-    read_records(alloc, &mut reader, &mut row)
+    read_records(alloc, has_many_keys(alloc, bytes), &mut reader, &mut row)
 }
 
 #[cfg(test)]

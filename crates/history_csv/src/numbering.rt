@@ -1,10 +1,10 @@
 //! Keys and values, numbered by first appearance.
-ghost use Rattle.std.specs.Prelude.{◌≡◌, ◌<◌, ◌++◌, [], ◌∷◌, List, length, OnOk, IfOk};
+ghost use Rattle.std.specs.Prelude.{◌≡◌, ◌<◌, ◌++◌, [], ◌∷◌, Some, List, length, OnOk, IfOk, IfSome};
 ghost use Rattle.std.specs.List.{position, position_or_len};
 ghost use Rattle.std.specs.Str.{bytes_eq};
 ghost use Rattle.history_csv.specs.Entries.{Entry, most_records};
 ghost use Rattle.history_csv.specs.Numbering.{contents_of, named, value_number, keys_of, history_of};
-ghost use Rattle.history_csv.specs.Building.{texts_of, keys_shown, with_text, with_key, with_value};
+ghost use Rattle.history_csv.specs.Building.{op_numbered, texts_of, keys_shown, with_text, with_key, with_value};
 
 use crate::entry::Entry;
 use indexmap::{IndexMap, IndexSet};
@@ -15,8 +15,8 @@ use std::marker::Model;
 // The tick at which a write that never finished counts as finished.
 const NEVER: u64 = 9_223_372_036_854_775_808;
 
-// A copy of a text.
-fn copy_of(alloc: Global, text: &[u8]) -> Result<Vec<u8>, Memory>
+/// A copy of a text.
+pub(crate) fn copy_of(alloc: Global, text: &[u8]) -> Result<Vec<u8>, Memory>
     ensures { IfOk result (λ copy. copy.items ≡ text.now) }
 {
     let Ok(copy) = Vec::from_slice(alloc, text) else {
@@ -25,18 +25,17 @@ fn copy_of(alloc: Global, text: &[u8]) -> Result<Vec<u8>, Memory>
     Ok(copy)
 }
 
-// The place of a text among texts.
-fn find(texts: &IndexSet<Vec<u8>>, text: &[u8]) -> Option<usize>
-    ensures { result ≡ position (bytes_eq text.now) (texts_of texts.now.keys) }
+// The place of a text, if it is the last of these.
+fn last_place(texts: &IndexSet<Vec<u8>>, text: &[u8]) -> Option<usize>
+    ensures { IfSome result (λ place.
+        Some place ≡ position (bytes_eq text.now) (texts_of texts.now.keys)) }
 {
-    let len = texts.len();
-    // Most reads return the value that was written last, which is found with no hash.
-    if let Some(last) = texts.last() {
-        if text == last.as_slice() {
-            return Some(len - 1);
-        }
+    let last = texts.last()?;
+    if text == last.as_slice() {
+        Some(texts.len() - 1)
+    } else {
+        None
     }
-    texts.get_index_of(text)
 }
 
 // The place of a text among texts, which is put at their end if it is new.
@@ -46,15 +45,30 @@ fn place_of(texts: &mut IndexSet<Vec<u8>>, alloc: Global, text: &[u8]) -> Result
     ensures texts { OnOk result
         (texts_of texts.new.keys ≡ with_text (texts_of texts.old.keys) text.now) }
 {
-    if let Some(place) = find(texts, text) {
+    // Most reads return the value that was written last, which is found with no hash.
+    if let Some(place) = last_place(texts, text) {
         return Ok(place);
     }
-    let place = texts.len();
     let copy = copy_of(alloc, text)?;
-    let Ok(_) = texts.insert(copy) else {
+    let Ok((place, _)) = texts.insert_full(copy) else {
         return Err(Memory);
     };
     Ok(place)
+}
+
+/// The operation of an entry whose value has this number.
+pub(crate) fn op_of(entry: &Entry, value: u32) -> Op
+    ensures { result ≡ op_numbered value entry.now }
+{
+    Op {
+        rec: entry.rec,
+        client: entry.client,
+        kind: entry.kind,
+        value,
+        start: entry.start,
+        finish: entry.finish.unwrap_or(NEVER),
+        slack: entry.slack,
+    }
 }
 
 /// A key as its entries come: its values so far, and its operations.
@@ -107,16 +121,7 @@ impl KeyBuilder {
             → self.new ≡ contents_of (entries ++ entry.now ∷ [])) }
     {
         let value = self.number(alloc, entry.value)?;
-        let op = Op {
-            rec: entry.rec,
-            client: entry.client,
-            kind: entry.kind,
-            value,
-            start: entry.start,
-            finish: entry.finish.unwrap_or(NEVER),
-            slack: entry.slack,
-        };
-        let Ok(()) = self.ops.push(op) else {
+        let Ok(()) = self.ops.push(op_of(entry, value)) else {
             return Err(Memory);
         };
         Ok(())

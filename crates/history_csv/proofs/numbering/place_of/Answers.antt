@@ -1,9 +1,8 @@
-use Rattle.std.proofs.Common.{refl, sym, ◌∙◌}
-use Rattle.std.proofs.lemmas.List.{length-map}
+use Rattle.std.proofs.Common.{refl, ◌∙◌, ap}
 use Rattle.std.specs.Str.{bytes_eq}
 use Rattle.history_csv.specs.Building.{texts_of}
-use Rattle.history_csv.proofs.Places.{place-found, place-missing}
-use Rattle.history_csv.proofs.Texts.{texts-insert}
+use Rattle.history_csv.proofs.Places.{place-found}
+use Rattle.history_csv.proofs.Texts.{buffer-place, buffer-texts}
 use Rattle.history_csv.proofs.numbering.place_of.Goals as goal
 
 pub returns-in-Some-clause-place : goal.returns-in-Some-clause-place
@@ -15,11 +14,7 @@ returns-in-Some-clause-texts c =
     rw found.1 refl
 
 pub returns-clause-place : goal.returns-clause-place
-returns-clause-place c =
-    let missing = place-missing (bytes_eq c.args.text.now) (texts_of c.args.texts.now.keys) (sym c.in_default.ensures) in
-    c.len-place.ensures.len ∙ sym (missing.0 ∙ length-map c.args.texts.now.keys _)
+returns-clause-place c = c.in-Ok.ensures.index ∙ buffer-place c.args.texts.now.keys c.in_ok-copy.copy c.args.text.now c.in_ok-copy.ensures
 
 pub returns-clause-texts : goal.returns-clause-texts
-returns-clause-texts c =
-    let missing = place-missing (bytes_eq c.args.text.now) (texts_of c.args.texts.now.keys) (sym c.in_default.ensures) in
-    texts-insert c.args.texts.now.keys c.insert.new.self.keys c.in_ok-copy.copy c.args.text.now c.in_ok-copy.ensures missing.1 c.in-Ok.ensures.keys
+returns-clause-texts c = ap texts_of c.in-Ok.ensures.keys ∙ buffer-texts c.args.texts.now.keys c.in_ok-copy.copy c.args.text.now c.in_ok-copy.ensures
