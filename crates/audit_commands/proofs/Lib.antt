@@ -6,6 +6,7 @@ pub mod Refusing
 pub mod Auditing
 pub mod Checking
 pub mod Ending
+pub mod Generating
 pub mod Completing
 pub mod Chains
 pub mod Written

@@ -4,8 +4,9 @@ ghost use Rattle.std.specs.Prelude.{◌≡◌, ◌<◌, ◌^◌, IsTrue, None, l
 ghost use Rattle.std.specs.List.{list_all};
 ghost use Rattle.stale_model.specs.Valid.{IsValidHistory};
 ghost use Rattle.cert_text.specs.Certificates.{has_chains};
+ghost use Rattle.audit_words.specs.Limits.{AreWorkers};
 ghost use Rattle.audit_words.specs.declared.Task.{Task};
-ghost use Rattle.audit_commands.specs.Refusals.{AreWorkers, Certifies, WritesAudit, TaskEnds};
+ghost use Rattle.audit_commands.specs.Refusals.{Certifies, WritesAudit, TaskEnds};
 
 use crate::history::history_in;
 use crate::output::{print, write_file};
@@ -17,6 +18,7 @@ use cert_text::write_cert;
 use stale_model::{Bytes, History, Verdict};
 use staleness_report::report;
 use std::alloc::Global;
+use std::mem::forget;
 use std::thread::Threads;
 
 // Writes the certificate to the file of this name, where one is named. Its text is made before any of it is written.
@@ -80,6 +82,10 @@ pub(crate) fn audit<R: Threads + Sync, S: Shelf, O: Sink, G: Gate>(
 {
     let history = history_in(alloc, shelf, file.as_slice())?;
     let verdicts = judge_all(rt, alloc, &history, workers, gate)?;
-    write_audit(alloc, &history, verdicts.as_slice(), cert, shelf, out)?;
+    let written = write_audit(alloc, &history, verdicts.as_slice(), cert, shelf, out);
+    // The process ends here, so nothing is taken apart.
+    forget(history);
+    forget(verdicts);
+    written?;
     Ok(Status::Done)
 }

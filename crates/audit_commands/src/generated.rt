@@ -4,9 +4,10 @@ ghost use Rattle.std.specs.Prelude.{◌≡◌, IfOk, Ok, None};
 ghost use Rattle.stale_model.specs.Valid.{IsValidHistory};
 ghost use Rattle.history_csv.specs.Reading.{read_of};
 ghost use Rattle.audit_ports.specs.Shelf.{Shown};
+ghost use Rattle.audit_words.specs.Limits.{AreWorkers, IsWorkload};
 ghost use Rattle.audit_words.specs.declared.Task.{Task};
 ghost use Rattle.audit_commands.specs.Generated.{generated_text};
-ghost use Rattle.audit_commands.specs.Refusals.{AreWorkers, IsWorkload, TaskEnds};
+ghost use Rattle.audit_commands.specs.Refusals.{TaskEnds};
 
 use crate::output::print;
 use crate::refusal::Refusal;
@@ -19,6 +20,7 @@ use history_gen::gen_history;
 use stale_model::{Bytes, History, Memory};
 use staleness_report::totals;
 use std::alloc::Global;
+use std::mem::forget;
 use std::thread::Threads;
 
 // The text of the generated history.
@@ -39,8 +41,10 @@ fn generated_history(alloc: Global, workload: Workload) -> Result<History, Memor
     let text = generated_text(alloc, workload)?;
     match read_history(alloc, text.as_slice()) {
         Ok(history) => Ok(history),
-        Err(HistoryFault::Memory) => Err(Memory),
-        Err(_) => unreachable!(),
+        Err(fault) => match fault {
+            HistoryFault::Memory => Err(Memory),
+            _ => unreachable!(),
+        },
     }
 }
 
@@ -77,6 +81,9 @@ pub(crate) fn trial<R: Threads + Sync, O: Sink, G: Gate>(
     let history = generated_history(alloc, workload)?;
     let verdicts = judge_all(rt, alloc, &history, workers, gate)?;
     let line = totals(alloc, &history, verdicts.as_slice())?;
+    // The process ends after the line, so nothing is taken apart.
+    forget(history);
+    forget(verdicts);
     print(out, line.as_slice())?;
     Ok(Status::Done)
 }

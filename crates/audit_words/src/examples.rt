@@ -48,7 +48,7 @@ pub fn wrong_counts_of_files()
 
 /// A generated history has a seed, a number of operations and one of keys.
 pub fn generated_histories()
-    ensures gen { asked_by (codes "gen 7 20000 50") ≡ Some (Gen (workload 7 20000 50)) }
+    ensures generate { asked_by (codes "gen 7 20000 50") ≡ Some (Gen (workload 7 20000 50)) }
     ensures trial { asked_by (codes "trial 7 20000 50") ≡ Some (Trial (workload 7 20000 50) 1) }
     ensures workers { asked_by (codes "trial 7 20000 50 --workers 8")
         ≡ Some (Trial (workload 7 20000 50) 8) }

@@ -1,7 +1,8 @@
 //! The words of a command line, and what they ask for.
 #![tactic(auto)]
 
-ghost use Rattle.std.specs.Prelude.{◌≡◌, IfOk};
+ghost use Rattle.std.specs.Prelude.{◌≡◌, IfOk, IfSome};
+ghost use Rattle.audit_words.specs.Limits.{IsWithin};
 ghost use Rattle.audit_words.specs.Tasks.{task_of};
 
 pub mod examples;
@@ -64,7 +65,8 @@ pub enum Task {
 /// # Errors
 /// `Memory` may come at any time. It is never taken for wrong words.
 pub fn task_of(alloc: Global, words: &[Word]) -> Result<Option<Task>, Memory>
-    ensures { IfOk result (λ task. task ≡ task_of words.now) }
+    ensures task { IfOk result (λ task. task ≡ task_of words.now) }
+    ensures within { IfOk result (λ task. IfSome task IsWithin) }
 {
     let Ok(command) = command_line(alloc) else {
         return Err(Memory);

@@ -1,7 +1,8 @@
 //! The modes, and what each asks for.
 
-ghost use Rattle.std.specs.Prelude.{◌≡◌, IfOk};
+ghost use Rattle.std.specs.Prelude.{◌≡◌, IfOk, IfSome};
 ghost use Rattle.clap.specs.Words.{found_of, rows_of};
+ghost use Rattle.audit_words.specs.Limits.{IsWithin, IsWorkload};
 ghost use Rattle.audit_words.specs.Tasks.{audit_of, check_of, workload_of, gen_of, trial_of, task_in};
 
 use crate::{Task, Workload};
@@ -14,7 +15,8 @@ use std::alloc::Global;
 
 // `audit FILE [--cert OUT] [--workers N]`
 fn audit_of(alloc: Global, matches: &ArgMatches) -> Result<Option<Task>, Memory>
-    ensures { IfOk result (λ task. task ≡ audit_of (rows_of (found_of matches.now))) }
+    ensures task { IfOk result (λ task. task ≡ audit_of (rows_of (found_of matches.now))) }
+    ensures within { IfOk result (λ task. IfSome task IsWithin) }
 {
     let Some([file]) = values_in(matches, "args") else {
         return Ok(None);
@@ -37,7 +39,8 @@ fn audit_of(alloc: Global, matches: &ArgMatches) -> Result<Option<Task>, Memory>
 
 // `check FILE CERT`
 fn check_of(alloc: Global, matches: &ArgMatches) -> Result<Option<Task>, Memory>
-    ensures { IfOk result (λ task. task ≡ check_of (rows_of (found_of matches.now))) }
+    ensures task { IfOk result (λ task. task ≡ check_of (rows_of (found_of matches.now))) }
+    ensures within { IfOk result (λ task. IfSome task IsWithin) }
 {
     let Some([file, cert]) = values_in(matches, "args") else {
         return Ok(None);
@@ -52,7 +55,8 @@ fn check_of(alloc: Global, matches: &ArgMatches) -> Result<Option<Task>, Memory>
 
 // The settings of a generated history: a seed, a number of operations and one of keys.
 fn workload_of(matches: &ArgMatches) -> Option<Workload>
-    ensures { result ≡ workload_of (rows_of (found_of matches.now)) }
+    ensures value { result ≡ workload_of (rows_of (found_of matches.now)) }
+    ensures within { IfSome result IsWorkload }
 {
     let Some([seed, ops, keys]) = values_in(matches, "args") else {
         return None;
@@ -65,7 +69,8 @@ fn workload_of(matches: &ArgMatches) -> Option<Workload>
 
 // `gen SEED OPS KEYS`
 fn gen_of(matches: &ArgMatches) -> Option<Task>
-    ensures { result ≡ gen_of (rows_of (found_of matches.now)) }
+    ensures task { result ≡ gen_of (rows_of (found_of matches.now)) }
+    ensures within { IfSome result IsWithin }
 {
     let workload = workload_of(matches)?;
     Some(Task::Gen(workload))
@@ -73,7 +78,8 @@ fn gen_of(matches: &ArgMatches) -> Option<Task>
 
 // `trial SEED OPS KEYS [--workers N]`
 fn trial_of(matches: &ArgMatches) -> Option<Task>
-    ensures { result ≡ trial_of (rows_of (found_of matches.now)) }
+    ensures task { result ≡ trial_of (rows_of (found_of matches.now)) }
+    ensures within { IfSome result IsWithin }
 {
     let workload = workload_of(matches)?;
     let workers = workers_of(value_in(matches, "workers"))?;
@@ -82,7 +88,8 @@ fn trial_of(matches: &ArgMatches) -> Option<Task>
 
 /// What the matches ask for, by the mode.
 pub(crate) fn task_in(alloc: Global, matches: &ArgMatches) -> Result<Option<Task>, Memory>
-    ensures { IfOk result (λ task. task ≡ task_in (rows_of (found_of matches.now))) }
+    ensures task { IfOk result (λ task. task ≡ task_in (rows_of (found_of matches.now))) }
+    ensures within { IfOk result (λ task. IfSome task IsWithin) }
 {
     match value_in(matches, "mode") {
         Some("audit") if gives_only(matches, &["cert", "workers"]) => audit_of(alloc, matches),

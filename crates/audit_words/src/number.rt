@@ -1,6 +1,7 @@
 //! Numbers in words.
 
 ghost use Rattle.std.specs.Prelude.{◌≡◌, ◌≤◌, IfSome, option_map};
+ghost use Rattle.audit_words.specs.Limits.{AreWorkers};
 ghost use Rattle.audit_words.specs.Numbers.{number_of, number_within, workers_of};
 
 // The greatest number of digits.
@@ -41,7 +42,8 @@ pub(crate) fn number_within(text: &str, least: u64, most: u64) -> Option<u64>
 
 /// The number of workers that a text says; 1 where there is no text.
 pub(crate) fn workers_of(text: Option<&str>) -> Option<u32>
-    ensures { result ≡ workers_of (option_map (λ text. text.now) text.entry) }
+    ensures value { result ≡ workers_of (option_map (λ text. text.now) text.entry) }
+    ensures within { IfSome result AreWorkers }
 {
     let Some(text) = text else {
         return Some(1);

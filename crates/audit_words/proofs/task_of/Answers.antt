@@ -26,10 +26,10 @@ taken (Ok task) rows words is matches none =
     is ∙ ap task_in matches ∙ sym (ap (λ kinds. cond (is_empty kinds) (task_in (matches_of command_line words)) None) none)
 taken (Err fault) rows words is matches none = is
 
-pub returns-in-Ok-try_get_matches_from : goal.returns-in-Ok-try_get_matches_from
-returns-in-Ok-try_get_matches_from c =
+pub returns-in-Ok-try_get_matches_from-clause-task : goal.returns-in-Ok-try_get_matches_from-clause-task
+returns-in-Ok-try_get_matches_from-clause-task c =
     let parse = c.in-Ok-try_get_matches_from in
     let line : app_of c.in-Ok.command ≡ command_line = c.in-Ok.ensures in
     let none = ap₂ fault_of (sym line) (sym (map_same c.args.words.now)) ∙ parse.ensures.kinds (ap is_simple_and_free line ∙ is_free) in
     let rows = (parse.ensures.matches (ap is_simple line ∙ is_plain)).0 ∙ ap₂ matches_of line (map_same c.args.words.now) in
-    taken _ _ c.args.words.now c.task_in.ensures rows none
+    taken _ _ c.args.words.now c.task_in.ensures.task rows none

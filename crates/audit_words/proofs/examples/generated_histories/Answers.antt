@@ -5,7 +5,7 @@ use Rattle.audit_words.proofs.examples.generated_histories.Goals as goal
 pub returns : goal.returns
 unfolding clap_on_literals
 returns c = record {
-  gen = refl;
+  generate = refl;
   trial = refl;
   workers = refl;
   least = refl;

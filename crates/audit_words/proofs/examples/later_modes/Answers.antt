@@ -4,4 +4,4 @@ use Rattle.audit_words.proofs.examples.later_modes.Goals as goal
 
 pub returns : goal.returns
 unfolding clap_on_literals
-returns c = refl
+returns c = record { bench = refl }

@@ -1,0 +1,24 @@
+-- The limits of the numbers of a task.
+use Rattle.std.specs.Prelude.{ℕ, ◌≤◌, ⊤}
+use Rattle.audit_words.specs.declared.Task.{Task}
+use Rattle.audit_words.specs.declared.Task.TheVariants.{Audit, Check, Gen, Trial}
+use Rattle.audit_words.specs.declared.Workload.{Workload}
+
+-- the numbers of a generated history are within their limits
+pub record IsWorkload (workload : Workload) : Type 0 where
+  pub some_operation : 1 ≤ workload.ops
+  pub few_operations : workload.ops ≤ 1000000
+  pub some_key : 1 ≤ workload.keys
+  pub few_keys : workload.keys ≤ 100000
+
+-- the number of workers is 1 to 64
+pub record AreWorkers (workers : ℕ) : Type 0 where
+  pub some : 1 ≤ workers
+  pub few : workers ≤ 64
+
+-- the numbers of a task are within their limits
+abbrev pub IsWithin : Task → Type 0
+IsWithin (Audit file cert workers) = AreWorkers workers
+IsWithin (Check file cert) = ⊤
+IsWithin (Gen workload) = IsWorkload workload
+IsWithin (Trial workload workers) = IsWorkload workload × AreWorkers workers
