@@ -1,5 +1,5 @@
 -- How an audit ends after its history was taken and judged.
-use Rattle.std.proofs.Common.{◌≡◌, ℕ, ◌≤◌, List, Option, None, Ok, Err, Result, sym, ◌∙◌, ap, inl, inr, subst, arith}
+use Rattle.std.proofs.Common.{◌≡◌, ℕ, ◌≤◌, List, Option, None, Ok, Err, Result, refl, sym, ◌∙◌, ap, inl, inr, subst, arith}
 use Rattle.stale_model.specs.declared.History.{History}
 use Rattle.stale_model.specs.declared.Verdict.{Verdict}
 use Rattle.cert_text.specs.Certificates.{cert_text}

@@ -1,8 +1,10 @@
 -- What stays as it was on a shelf.
-use Rattle.std.proofs.Common.{◌≡◌, ℕ, List, Option, Some, None, refl, sym, ◌∙◌, inl, inr, subst, arith}
+use Rattle.std.proofs.Common.{◌≡◌, ℕ, ◌≤◌, List, Option, Some, None, refl, sym, ◌∙◌, inl, inr, subst, arith}
 use Rattle.audit_ports.specs.Shelf.{Shown, Files, WhereTold, Sets}
+use Rattle.audit_ports.specs.Sink.{SinkShown}
+use Rattle.audit_words.specs.Tasks.{task_of}
 use Rattle.audit_commands.specs.Output.{WritesFile, WritesFilePart, WritesNamed, WritesNamedPart}
-use Rattle.audit_commands.specs.Ends.{KeepsOthers, KeepsShelf}
+use Rattle.audit_commands.specs.Ends.{KeepsOthers, KeepsShelf, KeepsOutside, named_output, outside}
 use Rattle.audit_commands.specs.Steps.{OnlyReads}
 
 others_same : (output : Option (List ℕ)) (files : Option Files) → KeepsOthers output files files
@@ -25,6 +27,12 @@ keeps_same output s quiet = record {
   misses = omega arith;
   writing = quiet;
 }
+
+-- a shelf and an output that are left alone
+pub keeps_outside : (words : List (List ℕ)) (s : Shown) (o e e' : SinkShown) → s.writing ≡ None → e.faults ≤ e'.faults
+    → KeepsOutside words (outside s o e) (outside s o e')
+keeps_outside words s o e e' quiet more =
+    record { shelf = keeps_same (named_output (task_of words)) s quiet; untouched = λ none. refl; out = omega arith; err = more }
 
 -- files that are read
 pub keeps_reading : (output : Option (List ℕ)) (s m : Shown) → OnlyReads s m → s.writing ≡ None → KeepsShelf output s m

@@ -12,7 +12,6 @@ use Rattle.staleness_report.specs.Report.{report_text}
 use Rattle.audit_ports.specs.Shelf.{Shown, KeepsCounts, Misses, FailsReading}
 use Rattle.audit_ports.specs.Sink.{SinkShown}
 use Rattle.audit_words.specs.declared.Task.{Task}
-use Rattle.audit_words.specs.declared.Workload.{Workload}
 use Rattle.audit_words.specs.declared.Task.TheVariants.{Audit, Check, Gen, Trial}
 use Rattle.audit_commands.specs.declared.status.Status.{Status}
 use Rattle.audit_commands.specs.declared.status.Status.TheVariants as status
@@ -134,24 +133,6 @@ pub record RefusedBefore (task : Task) (old new : Shown) (out out' : SinkShown) 
 abbrev pub IsRefused : Task → Shown → Shown → SinkShown → SinkShown → Refusal → Type 0
 IsRefused task old new out out' refusal.WriteFailed = IsUnwritten task old new out out'
 IsRefused task old new out out' other = RefusedBefore task old new out out' other
-
--- the numbers of a generated history are within their limits
-pub record IsWorkload (workload : Workload) : Type 0 where
-  pub some_key : 1 ≤ workload.keys
-  pub few_keys : workload.keys ≤ 100000
-  pub few_ops : workload.ops ≤ 1000000
-
--- the number of workers is 1 to 64
-pub record AreWorkers (workers : ℕ) : Type 0 where
-  pub some : 1 ≤ workers
-  pub few : workers ≤ 64
-
--- the numbers of a task are within their limits
-abbrev pub IsWithin : Task → Type 0
-IsWithin (Audit file cert workers) = AreWorkers workers
-IsWithin (Check file cert) = ⊤
-IsWithin (Gen workload) = IsWorkload workload
-IsWithin (Trial workload workers) = IsWorkload workload × AreWorkers workers
 
 -- how a task ends
 pub record TaskEnds (task : Task) (old new : Shown) (out out' : SinkShown) (result : Result Status Refusal) : Type 0 where

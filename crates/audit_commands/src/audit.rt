@@ -4,8 +4,9 @@ ghost use Rattle.std.specs.Prelude.{◌≡◌, ◌<◌, ◌^◌, IsTrue, None, l
 ghost use Rattle.std.specs.List.{list_all};
 ghost use Rattle.stale_model.specs.Valid.{IsValidHistory};
 ghost use Rattle.cert_text.specs.Certificates.{has_chains};
+ghost use Rattle.audit_words.specs.Limits.{AreWorkers};
 ghost use Rattle.audit_words.specs.declared.Task.{Task};
-ghost use Rattle.audit_commands.specs.Refusals.{AreWorkers, Certifies, WritesAudit, TaskEnds};
+ghost use Rattle.audit_commands.specs.Refusals.{Certifies, WritesAudit, TaskEnds};
 
 use crate::history::history_in;
 use crate::output::{print, write_file};

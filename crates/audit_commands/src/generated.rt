@@ -4,9 +4,10 @@ ghost use Rattle.std.specs.Prelude.{◌≡◌, IfOk, Ok, None};
 ghost use Rattle.stale_model.specs.Valid.{IsValidHistory};
 ghost use Rattle.history_csv.specs.Reading.{read_of};
 ghost use Rattle.audit_ports.specs.Shelf.{Shown};
+ghost use Rattle.audit_words.specs.Limits.{AreWorkers, IsWorkload};
 ghost use Rattle.audit_words.specs.declared.Task.{Task};
 ghost use Rattle.audit_commands.specs.Generated.{generated_text};
-ghost use Rattle.audit_commands.specs.Refusals.{AreWorkers, IsWorkload, TaskEnds};
+ghost use Rattle.audit_commands.specs.Refusals.{TaskEnds};
 
 use crate::output::print;
 use crate::refusal::Refusal;
@@ -40,8 +41,10 @@ fn generated_history(alloc: Global, workload: Workload) -> Result<History, Memor
     let text = generated_text(alloc, workload)?;
     match read_history(alloc, text.as_slice()) {
         Ok(history) => Ok(history),
-        Err(HistoryFault::Memory) => Err(Memory),
-        Err(_) => unreachable!(),
+        Err(fault) => match fault {
+            HistoryFault::Memory => Err(Memory),
+            _ => unreachable!(),
+        },
     }
 }
 

@@ -2,12 +2,13 @@
 #![tactic(auto)]
 
 ghost use Rattle.std.specs.Prelude.{◌≡◌, ◌⊎◌, None};
+ghost use Rattle.audit_words.specs.Limits.{IsWithin};
 ghost use Rattle.audit_words.specs.Tasks.{task_of};
 ghost use Rattle.audit_commands.specs.Status.{number};
 ghost use Rattle.audit_commands.specs.Lines.{memory_line, SaysLine};
 ghost use Rattle.audit_commands.specs.Ends.{outside, KeepsOutside, EndsAs};
 ghost use Rattle.audit_commands.specs.Complete.{IsComplete};
-ghost use Rattle.audit_commands.specs.Refusals.{IsWithin, TaskEnds};
+ghost use Rattle.audit_commands.specs.Refusals.{TaskEnds};
 
 mod audit;
 mod certificate;

@@ -1,6 +1,7 @@
 use Rattle.std.proofs.Common.{◌≡◌, Some, rules}
 use Rattle.audit_words.specs.Tasks.{task_of}
 use Rattle.audit_commands.specs.Status.{number}
+use Rattle.audit_commands.proofs.Keeping.{keeps_outside}
 use Rattle.audit_commands.proofs.Ending.{refused}
 use Rattle.audit_commands.proofs.Completing.{refused_complete, performed_complete}
 use Rattle.audit_commands.proofs.run_offline.Goals as goal
@@ -11,6 +12,11 @@ returns-in-Ok-clause-complete g c =
     let is : c.number-in-Ok.result ≡ number c.in-Ok.status = search rules in
     rw is (performed_complete c.args.words.now c.in-Ok-Some.task named (g.S.Shelf.shown c.args.shelf.now) (g.S.Shelf.shown c.perform.new.shelf) (g.O.Sink.shown c.args.out.now) (g.O.Sink.shown c.perform.new.out)
     (g.E.Sink.shown c.args.err.now) (g.E.Sink.shown c.args.err.now) c.in-Ok.status c.in-Ok.ensures.done)
+
+pub returns-in-Err-clause-keeps : goal.returns-in-Err-clause-keeps
+returns-in-Err-clause-keeps g c =
+    keeps_outside c.args.words.now (g.S.Shelf.shown c.args.shelf.now) (g.O.Sink.shown c.args.out.now) (g.E.Sink.shown c.args.err.now) (g.E.Sink.shown c.end_without_memory.new.err)
+    c.requires c.end_without_memory.ensures.says.keeps
 
 pub returns-clause-ends : goal.returns-clause-ends
 returns-clause-ends g c =
