@@ -1,7 +1,7 @@
 -- The entries of `stuck`, walked to one of its places.
-use Rattle.std.proofs.Common.{◌≡◌, ◌⊎◌, inl, inr, ◌<◌, ◌≤◌, ◌+◌, ℕ, Bool, true, List, length, subst, arith}
+use Rattle.std.proofs.Common.{◌≡◌, ◌⊎◌, inl, inr, ◌<◌, ◌≤◌, ◌+◌, ℕ, Bool, true, List, length, get_or, refl, subst, arith}
 use Rattle.std.specs.Prelude.{Contains}
-use Rattle.std.proofs.lemmas.Option.{slice_get_within}
+use Rattle.std.proofs.lemmas.Option.{slice_get_within, slice_get_read}
 use Rattle.stale_model.specs.declared.Op.{Op}
 use Rattle.stale_model.specs.declared.KeyOps.{KeyOps}
 use Rattle.stale_model.specs.Operations.{operations, IsWrite}
@@ -61,3 +61,10 @@ pub no_strangers : (ops : List Op) (stuck : List ℕ) (marks : List Bool) → Ar
 no_strangers ops stuck marks are p s =
     no_stranger ops stuck (length stuck)
     (record { known = λ i x low at. are.writes x (contains_at stuck i x at); once = λ i j x li lj a b. are.once i j x a b }) p (slice_get_within stuck p s.rec s.there) s
+
+-- the record of a marked value stood before
+pub stood_by_mark : (key : KeyOps) (stuck : List ℕ) (n rec value : ℕ) (marks : List Bool) (read : Bool) → IsValidKey key → length marks ≡ length key.values + 1
+    → HaveMark (operations key) stuck n marks true → IsWrittenBy (operations key) value rec → read ≡ get_or marks value read → read ≡ true → StandsTo stuck n rec
+stood_by_mark key stuck n rec value marks read valid size are by is marked =
+    let low = written_in_slots key value rec valid by in
+    are.only value rec by (subst (StandsAt marks value) marked (slice_get_read marks (length marks) value read refl (omega arith) is))

@@ -115,20 +115,19 @@ fn first_unmarked(key: &KeyOps, marks: &[bool]) -> Option<u32>
     None
 }
 
-// The record that is named where the list doesn't have each operation once. Where it has, `ops` has them in its order.
+// The record that is named where `order` doesn't have each operation once. Where it has, `ops` has them in its order.
 fn listing(
-    marks: &mut Vec<bool>,
-    ops: &mut Vec<Op>,
+    lists: &mut OrderLists,
     key: &KeyOps,
     hints: &Hints,
     order: &[u32],
 ) -> Result<Option<u32>, Memory>
     requires { IsValidKey key.now }
-    ensures { IfOk result (IsListed (operations key.now) order.now ops.new.items) }
+    ensures { IfOk result (IsListed (operations key.now) order.now lists.new.ops.items) }
 {
-    match follow(marks, ops, key, hints, order)? {
+    match follow(&mut lists.marks, &mut lists.ops, key, hints, order)? {
         Some(rec) => Ok(Some(rec)),
-        None => Ok(first_unmarked(key, marks.as_slice())),
+        None => Ok(first_unmarked(key, lists.marks.as_slice())),
     }
 }
 
@@ -222,7 +221,7 @@ pub(crate) fn order_fault(
     requires matched { IsMatchedKey (operations key.now) }
     ensures { IfOk result (IsOrderCheck (operations key.now) d k order.now) }
 {
-    if let Some(rec) = listing(&mut lists.marks, &mut lists.ops, key, hints, order)? {
+    if let Some(rec) = listing(lists, key, hints, order)? {
         return Ok(Some(OrderFault::Listing { rec }));
     }
     let ops = lists.ops.as_slice();

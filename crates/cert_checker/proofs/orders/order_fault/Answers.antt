@@ -9,7 +9,7 @@ pub returns-in-Some-2 : goal.returns-in-Some-2
 returns-in-Some-2 c =
     let ops : List Op = operations c.args.key.now in
     let all = rw c.in_ok-rec.was at c.listing.ensures in
-    let (each_once, listed) = subst (IsListed ops c.args.order.now c.listing.new.ops.items) c.in_default.is all in
+    let (each_once, listed) = subst (IsListed ops c.args.order.now c.listing.new.lists.ops.items) c.in_default.is all in
     let returned = rw c.in_ok-rec-2.was at c.first_unreturned.ensures in
     let same : records_of c.as_slice-ops.result.now ≡ c.args.order.now = ap records_of c.as_slice-ops.ensures.value ∙ listed.records in
     record {
@@ -22,7 +22,7 @@ pub returns-in-None : goal.returns-in-None
 returns-in-None c =
     let ops : List Op = operations c.args.key.now in
     let all = rw c.in_ok-rec.was at c.listing.ensures in
-    let (each_once, listed) = subst (IsListed ops c.args.order.now c.listing.new.ops.items) c.in_default.is all in
+    let (each_once, listed) = subst (IsListed ops c.args.order.now c.listing.new.lists.ops.items) c.in_default.is all in
     let returned = rw c.in_ok-rec-2.was at c.first_unreturned.ensures in
     let same : records_of c.as_slice-ops.result.now ≡ c.args.order.now = ap records_of c.as_slice-ops.ensures.value ∙ listed.records in
     order_from c.args.key.now c.requires.valid c.args.d c.args.k c.args.order.now each_once

@@ -11,40 +11,17 @@ use Rattle.cert_checker.specs.OrderFaults.{StandsTo}
 use Rattle.cert_checker.specs.RefutationSteps.{IsWrittenBy, IsWriteRecord, FindsWritten}
 use Rattle.cert_checker.proofs.Marks.{good_more}
 use Rattle.cert_checker.proofs.Written.{mark_more}
-use Rattle.cert_checker.proofs.MemberMarks.{written_in_slots, write_record, first_stranger, members_to_end}
+use Rattle.cert_checker.proofs.MemberMarks.{written_in_slots, write_record, stood_by_mark, first_stranger, members_to_end}
 use Rattle.cert_checker.proofs.refutations.first_stranger.Goals as goal
 
 pub returns-in_default : goal.returns-in_default
-returns-in_default c = first_stranger ops stuck n c.loop-rec.invariant.good rec (slice_get-get_or stuck n 0 c.loop-rec-test.true) (inr marked)
-  where
-    ops : List Op
-    ops = operations c.args.key.now
-
-    stuck : List ℕ
-    stuck = c.args.stuck.now
-
-    n : ℕ
-    n = c.loop-rec.rec-index
-
-    rec : ℕ
-    rec = get_or stuck n 0
-
-    value : ℕ
-    value = c.in-Some.value
-
-    marks : List Bool
-    marks = c.loop-rec.marks.items
-
-    by : IsWrittenBy ops value rec
-    by = subst (FindsWritten ops rec) c.in-Some.is c.written_value.ensures
-
-    wide : value < length marks
-    wide = let low = written_in_slots c.args.key.now value rec c.requires.valid by in let size = c.loop-rec.invariant.size in omega arith
-
-    marked : StandsTo stuck n rec
-    marked =
-        c.loop-rec.invariant.marked.only value rec by
-        (subst (StandsAt marks value) c.if-not-index.false (slice_get_read marks (length marks) value c.index.result.now refl wide c.index.ensures))
+returns-in_default c =
+    first_stranger (operations c.args.key.now) c.args.stuck.now c.loop-rec.rec-index c.loop-rec.invariant.good (get_or c.args.stuck.now c.loop-rec.rec-index 0)
+    (slice_get-get_or c.args.stuck.now c.loop-rec.rec-index 0 c.loop-rec-test.true)
+    (inr
+    (stood_by_mark c.args.key.now c.args.stuck.now c.loop-rec.rec-index (get_or c.args.stuck.now c.loop-rec.rec-index 0) c.in-Some.value c.loop-rec.marks.items c.index.result.now c.requires.valid
+    c.loop-rec.invariant.size c.loop-rec.invariant.marked (subst (FindsWritten (operations c.args.key.now) (get_or c.args.stuck.now c.loop-rec.rec-index 0)) c.in-Some.is c.written_value.ensures)
+    c.index.ensures c.if-not-index.false))
 
 pub returns-in_default-2 : goal.returns-in_default-2
 returns-in_default-2 c =
