@@ -1,5 +1,5 @@
 -- The parts of entries, one more entry at a time, and the history that they make.
-use Rattle.std.proofs.Common.{◌≡◌, ℕ, zero, suc, ◌+◌, ◌<◌, ◌≤◌, ◌%◌, List, [], ◌∷◌, ◌++◌, All, Some, false, true, length, get_or, map, filter, set, slice_get, replicate, refl, sym, ◌∙◌, ap, inl, inr, arith, count_by}
+use Rattle.std.proofs.Common.{◌≡◌, ℕ, zero, suc, ◌+◌, ◌<◌, ◌≤◌, List, [], ◌∷◌, ◌++◌, All, Some, false, true, length, get_or, map, set, slice_get, replicate, refl, sym, ◌∙◌, ap, inl, inr, arith, count_by}
 use Rattle.std.specs.Prelude.{◌==◌, slice_index_or, not}
 use Rattle.std.specs.Ordering.{is_lt, nat_cmp, on}
 use Rattle.std.specs.List.{flat_map, range_with_len}

@@ -18,6 +18,9 @@ use std::marker::Model;
 // The values of a key with so many operations are looked for one by one.
 const FEW: usize = 32;
 
+// At most so much room is made at once for the values of a key.
+const MOST_ROOM: usize = 2048;
+
 // The values of a key so far.
 #[derive(Drop)]
 enum Values<'a> {
@@ -110,7 +113,10 @@ fn no_values<'a>(alloc: Global, count: usize) -> Result<Values<'a>, Memory>
             Err(_) => Err(Memory),
         }
     } else {
-        Ok(Values::Many(IndexSet::new(alloc)))
+        match IndexSet::with_capacity(alloc, count.min(MOST_ROOM)) {
+            Ok(texts) => Ok(Values::Many(texts)),
+            Err(_) => Err(Memory),
+        }
     }
 }
 
