@@ -12,6 +12,7 @@ pub mod MapSteps
 pub mod PartedKeys
 pub mod BlockFacts
 pub mod PartFacts
+pub mod RangeLists
 pub mod PartsFacts
 pub mod HistoryFacts
 pub mod ReadSteps

@@ -23,7 +23,7 @@ others-differ n (x ∷ xs) = elim (cases_Bool (bytes_eq n x)) [
   | inr e ↦ rw e (e, others-differ n xs)
 ]
 
-all-filter : {X : Type 0} (P : X → Type 0) (p : X → Bool) (xs : List X) → AllByRecursion P xs → AllByRecursion P (filter p xs)
+pub all-filter : {X : Type 0} (P : X → Type 0) (p : X → Bool) (xs : List X) → AllByRecursion P xs → AllByRecursion P (filter p xs)
 all-filter P p [] all = tt
 all-filter P p (x ∷ xs) all = elim (cases_Bool (p x)) [
   | inl e ↦ rw e (all.0, all-filter P p xs all.1)

@@ -1,5 +1,5 @@
 -- The keys of entries are the keys of their parts, in the order of their first records.
-use Rattle.std.proofs.Common.{◌≡◌, ℕ, zero, suc, ◌+◌, ◌<◌, ◌≤◌, Bool, true, false, not, List, [], ◌∷◌, ◌++◌, length, map, filter, refl, sym, ◌∙◌, ap, inl, inr, subst, arith}
+use Rattle.std.proofs.Common.{◌≡◌, ℕ, zero, suc, ◌+◌, ◌<◌, ◌≤◌, Bool, true, false, not, List, [], ◌∷◌, ◌++◌, map, filter, refl, sym, ◌∙◌, ap, inl, inr, subst, arith}
 use Rattle.std.specs.Prelude.{◌==◌}
 use Rattle.std.specs.List.{AllByRecursion, flat_map, range_with_len}
 use Rattle.std.specs.List.Sorted.{IsPermutation, IsSorted, IsStrictlyIncreasing}
@@ -15,7 +15,7 @@ use Rattle.history_csv.specs.Entries.{Entry}
 use Rattle.history_csv.specs.Numbering.{contents_of, distinct, entries_on, key_ops, keys_of, named, op_of, values_of}
 use Rattle.history_csv.specs.Parting.{Rise, entries_in, first_record, names_in, with_first}
 use Rattle.history_csv.proofs.Distinct.{bytes_eq-flip, bytes_eq-itself, same_text}
-use Rattle.history_csv.proofs.KeyFacts.{map-agree}
+use Rattle.history_csv.proofs.MapFacts.{all-filter}
 
 -- ---- lists that are filtered
 
@@ -43,25 +43,11 @@ filter-swap p q (x ∷ xs) = elim (cases_Bool (p x)) [
   ]
 ]
 
-filter-map : {X Y : Type 0} (p : Y → Bool) (f : X → Y) (xs : List X) → filter p (map f xs) ≡ map f (filter (λ x. p (f x)) xs)
-filter-map p f [] = refl
-filter-map p f (x ∷ xs) = elim (cases_Bool (p (f x))) [
-  | inl holds ↦ rw (holds, filter-map p f xs) refl
-  | inr fails ↦ rw fails (filter-map p f xs)
-]
-
 map-filtered : {X Y : Type 0} (f g : X → Y) (p : X → Bool) → ((x : X) → p x ≡ true → f x ≡ g x) → (xs : List X) → map f (filter p xs) ≡ map g (filter p xs)
 map-filtered f g p same [] = refl
 map-filtered f g p same (x ∷ xs) = elim (cases_Bool (p x)) [
   | inl holds ↦ rw (holds, same x holds, map-filtered f g p same xs) refl
   | inr fails ↦ rw fails (map-filtered f g p same xs)
-]
-
-all-filtered : {X : Type 0} (P : X → Type 0) (p : X → Bool) (xs : List X) → AllByRecursion P xs → AllByRecursion P (filter p xs)
-all-filtered P p [] all = tt
-all-filtered P p (x ∷ xs) all = elim (cases_Bool (p x)) [
-  | inl holds ↦ rw holds (all.0, all-filtered P p xs all.1)
-  | inr fails ↦ rw fails (all-filtered P p xs all.1)
 ]
 
 -- ---- elements dealt by a number
@@ -126,12 +112,19 @@ firsts (e ∷ es) = e ∷ filter (is_other e) (firsts es)
 
 all-firsts : (P : Entry → Type 0) (es : List Entry) → AllByRecursion P es → AllByRecursion P (firsts es)
 all-firsts P [] all = tt
-all-firsts P (e ∷ es) all = (all.0, all-filtered P (is_other e) (firsts es) (all-firsts P es all.1))
+all-firsts P (e ∷ es) all = (all.0, all-filter P (is_other e) (firsts es) (all-firsts P es all.1))
+
+names-others : (e : Entry) (es : List Entry) → filter (λ other. not (bytes_eq e.key other)) (names_in es) ≡ names_in (filter (is_other e) es)
+names-others e [] = refl
+names-others e (x ∷ es) = elim (cases_Bool (bytes_eq e.key x.key)) [
+  | inl same ↦ rw same (names-others e es)
+  | inr differs ↦ rw (differs, names-others e es) refl
+]
 
 -- the names of the keys are those of their first entries
 names-firsts : (es : List Entry) → distinct (names_in es) ≡ names_in (firsts es)
 names-firsts [] = refl
-names-firsts (e ∷ es) = rw (names-firsts es, filter-map (λ other. not (bytes_eq e.key other)) (λ (x : Entry). x.key) (firsts es)) refl
+names-firsts (e ∷ es) = rw (names-firsts es, names-others e (firsts es)) refl
 
 map-map : {X Y Z : Type 0} (g : Y → Z) (f : X → Y) (xs : List X) → map g (map f xs) ≡ map (λ x. g (f x)) xs
 map-map g f [] = refl
@@ -168,14 +161,14 @@ firsts-are (e ∷ es) =
 pub rise-filter : (p : Entry → Bool) (es : List Entry) → Rise es → Rise (filter p es)
 rise-filter p [] rise = tt
 rise-filter p (e ∷ es) rise = elim (cases_Bool (p e)) [
-  | inl holds ↦ rw holds (all-filtered (λ x. e.rec < x.rec) p es rise.0, rise-filter p es rise.1)
+  | inl holds ↦ rw holds (all-filter (λ x. e.rec < x.rec) p es rise.0, rise-filter p es rise.1)
   | inr fails ↦ rw fails (rise-filter p es rise.1)
 ]
 
 rise-firsts : (es : List Entry) → Rise es → Rise (firsts es)
 rise-firsts [] rise = tt
 rise-firsts (e ∷ es) rise = (
-  all-filtered (λ x. e.rec < x.rec) (is_other e) (firsts es) (all-firsts (λ x. e.rec < x.rec) es rise.0),
+  all-filter (λ x. e.rec < x.rec) (is_other e) (firsts es) (all-firsts (λ x. e.rec < x.rec) es rise.0),
   rise-filter (is_other e) (firsts es) (rise-firsts es rise.1),
 )
 

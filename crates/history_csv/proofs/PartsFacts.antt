@@ -1,5 +1,5 @@
 -- The parts of entries, one more entry at a time, and the history that they make.
-use Rattle.std.proofs.Common.{◌≡◌, ℕ, zero, suc, ◌+◌, ◌<◌, ◌≤◌, ◌%◌, List, [], ◌∷◌, ◌++◌, All, Some, false, true, length, get_or, map, filter, set, slice_get, replicate, refl, sym, ◌∙◌, ap, inl, inr, arith, count_by}
+use Rattle.std.proofs.Common.{◌≡◌, ℕ, zero, suc, ◌+◌, ◌<◌, ◌≤◌, List, [], ◌∷◌, ◌++◌, All, Some, false, true, length, get_or, map, set, slice_get, replicate, refl, sym, ◌∙◌, ap, inl, inr, arith, count_by}
 use Rattle.std.specs.Prelude.{◌==◌, slice_index_or, not}
 use Rattle.std.specs.Ordering.{is_lt, nat_cmp, on}
 use Rattle.std.specs.List.{flat_map, range_with_len}
@@ -17,32 +17,8 @@ use Rattle.history_csv.specs.Numbering.{history_of, is_skipped, kept, keys_of}
 use Rattle.history_csv.specs.Parting.{Rise, entries_in, part_count, part_of, parts_of, with_first}
 use Rattle.history_csv.proofs.HistoryFacts.{history-is}
 use Rattle.history_csv.proofs.KeyFacts.{filter-shorter}
+use Rattle.history_csv.proofs.RangeLists.{made-get, made-set}
 use Rattle.history_csv.proofs.PartedKeys.{parted-keys, rise-filter}
-
--- ---- lists that are made of numbers from a on
-
-module _ {X : Type 0} (f : ℕ → X) where
-  made-get : (a n k at : ℕ) → at ≡ a + k → k < n → slice_get (map f (range_with_len a n)) k ≡ Some (f at)
-  made-get a zero k at is low = absurd (omega arith)
-  made-get a (suc n) zero at is low = let here : a ≡ at = omega arith in ap (λ i. Some (f i)) here
-  made-get a (suc n) (suc k) at is low = made-get (a + 1) n k at (omega arith) (omega arith)
-
-  module _ (g : ℕ → X) where
-    made-agree : (a n : ℕ) → ((i : ℕ) → a ≤ i → g i ≡ f i) → map g (range_with_len a n) ≡ map f (range_with_len a n)
-    made-agree a zero same = refl
-    made-agree a (suc n) same = rw (same a (omega arith), made-agree (a + 1) n (λ i low. same i (omega arith))) refl
-
-    -- two that differ at one number alone
-    made-set : (a n k at : ℕ) → at ≡ a + k → k < n → ((i : ℕ) → (i ≡ at → ⊥) → g i ≡ f i) → map g (range_with_len a n) ≡ set (map f (range_with_len a n)) k (g at)
-    made-set a zero k at is low same = absurd (omega arith)
-    made-set a (suc n) zero at is low same =
-        let here : a ≡ at = omega arith in
-        let rest = made-agree (a + 1) n (λ i above. same i (λ e. omega arith)) in
-        rw rest (ap (λ i. g i ∷ map f (range_with_len (a + 1) n)) here)
-    made-set a (suc n) (suc k) at is low same =
-        let first : g a ≡ f a = same a (λ e. omega arith) in
-        let rest = made-set (a + 1) n k at (omega arith) (omega arith) same in
-        rw (first, rest) refl
 
 module _ (part : List ℕ → ℕ) where
   no-entries : (a n : ℕ) → map (entries_in part []) (range_with_len a n) ≡ replicate n []

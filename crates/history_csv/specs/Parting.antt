@@ -1,5 +1,5 @@
 -- What serves the code alone: entries parted by a number of their key, and keys beside their first records.
-use Rattle.std.specs.Prelude.{ℕ, ◌<◌, ◌/◌, ◌%◌, ◌==◌, List, [], ◌∷◌, map, filter}
+use Rattle.std.specs.Prelude.{ℕ, ◌<◌, ◌/◌, ◌%◌, ◌==◌, List, [], ◌∷◌, map, filter, count_by}
 use Rattle.std.specs.Borrow.{Bor}
 use Rattle.std.specs.Hash.FoldHasher
 use Rattle.std.specs.List.{AllByRecursion, position_or_len, range_with_len}
@@ -38,6 +38,10 @@ names_in entries = map (λ entry. entry.key) entries
 -- the place of an entry's key among names
 abbrev pub place_in : List (List ℕ) → Entry → ℕ
 place_in names entry = position_or_len (bytes_eq entry.key) names
+
+-- how often a number stands among numbers
+abbrev pub times_in : List ℕ → ℕ → ℕ
+times_in numbers number = count_by (λ other. other == number) numbers
 
 -- the texts that slices lend
 abbrev pub slices_shown : List (Bor (List ℕ)) → List (List ℕ)

@@ -1,11 +1,11 @@
 //! The keys of a part, taken out of its entries at once.
-ghost use Rattle.std.specs.Prelude.{◌≡◌, ◌<◌, ◌≤◌, ◌++◌, [], ◌∷◌, ℕ, List, length, map, All, OnOk, IfOk};
-ghost use Rattle.std.specs.List.{position, position_or_len};
+ghost use Rattle.std.specs.Prelude.{◌≡◌, ◌<◌, ◌≤◌, ◌++◌, [], ◌∷◌, ℕ, Some, List, length, map, All, OnOk, IfOk, IfSome};
+ghost use Rattle.std.specs.List.{position, position_or_len, range_with_len};
 ghost use Rattle.std.specs.Str.{bytes_eq};
 ghost use Rattle.history_csv.specs.Entries.{Entry, most_records};
 ghost use Rattle.history_csv.specs.Numbering.{contents_of, distinct, key_ops, keys_of, named, value_number};
 ghost use Rattle.history_csv.specs.Building.{with_text, with_value};
-ghost use Rattle.history_csv.specs.Parting.{slices_shown, values_shown, names_in, place_in, with_first};
+ghost use Rattle.history_csv.specs.Parting.{slices_shown, values_shown, names_in, place_in, times_in, with_first};
 
 use crate::blocks::Block;
 use crate::entry::Entry;
@@ -17,6 +17,9 @@ use std::marker::Model;
 
 // The values of a key with so many operations are looked for one by one.
 const FEW: usize = 32;
+
+// At most so much room is made at once for the values of a key.
+const MOST_ROOM: usize = 2048;
 
 // The values of a key so far.
 #[derive(Drop)]
@@ -54,6 +57,19 @@ fn place_among_few<'a>(texts: &mut Vec<&'a [u8]>, text: &'a [u8]) -> Result<usiz
     Ok(place)
 }
 
+// The place of a text, if it is the last of these.
+fn last_place(texts: &IndexSet<&[u8]>, text: &[u8]) -> Option<usize>
+    ensures { IfSome result (λ place.
+        Some place ≡ position (bytes_eq text.now) (slices_shown texts.now.keys)) }
+{
+    let last = texts.last()?;
+    if text == *last {
+        Some(texts.len() - 1)
+    } else {
+        None
+    }
+}
+
 // The place of a text among many texts, which is put at their end if it is new.
 fn place_among_many<'a>(texts: &mut IndexSet<&'a [u8]>, text: &'a [u8]) -> Result<usize, Memory>
     ensures place { IfOk result (λ place.
@@ -61,6 +77,10 @@ fn place_among_many<'a>(texts: &mut IndexSet<&'a [u8]>, text: &'a [u8]) -> Resul
     ensures texts { OnOk result
         (slices_shown texts.new.keys ≡ with_text (slices_shown texts.old.keys) text.now) }
 {
+    // Most reads return the value that was written last, which is found with no hash.
+    if let Some(place) = last_place(texts, text) {
+        return Ok(place);
+    }
     let Ok((place, _)) = texts.insert_full(text) else {
         return Err(Memory);
     };
@@ -93,7 +113,10 @@ fn no_values<'a>(alloc: Global, count: usize) -> Result<Values<'a>, Memory>
             Err(_) => Err(Memory),
         }
     } else {
-        Ok(Values::Many(IndexSet::new(alloc)))
+        match IndexSet::with_capacity(alloc, count.min(MOST_ROOM)) {
+            Ok(texts) => Ok(Values::Many(texts)),
+            Err(_) => Err(Memory),
+        }
     }
 }
 
@@ -238,14 +261,15 @@ fn names_of<'a>(alloc: Global, block: &'a Block) -> Result<Names<'a>, Memory>
 // How often each number below a count stands among numbers.
 fn counts_of(alloc: Global, numbers: &[usize], count: usize) -> Result<Vec<usize>, Memory>
     requires { All (λ number. number < count) numbers.now }
-    ensures { IfOk result (λ counts. length counts.items ≡ count) }
+    ensures times { IfOk result (λ counts.
+        counts.items ≡ map (times_in numbers.now) (range_with_len 0 count)) }
+    ensures len { IfOk result (λ counts. length counts.items ≡ count) }
 {
     let Ok(mut counts) = vec![in alloc; 0usize; count] else {
         return Err(Memory);
     };
     for place in 0..numbers.len() {
-        let count = &mut counts[numbers[place]];
-        *count = count.saturating_add(1);
+        counts[numbers[place]] += 1;
     }
     Ok(counts)
 }

@@ -1,4 +1,4 @@
-use Rattle.std.proofs.Common.{◌≡◌, ◌-◌, true, Some, slice_get, sym}
+use Rattle.std.proofs.Common.{◌≡◌, ◌-◌, ℕ, Vec, Global, true, Some, slice_get, sym}
 use Rattle.std.specs.Str.{bytes_eq}
 use Rattle.history_csv.proofs.Texts.{position-read}
 use Rattle.history_csv.proofs.numbering.last_place.Goals as goal
@@ -9,4 +9,4 @@ returns-then-eq c =
     let last = c.in_ok-last.last.now in
     let at : slice_get keys (c.len.result - 1) ≡ Some last = rw c.len.ensures.len (sym c.in_ok-last.ensures.key) in
     let same : bytes_eq c.args.text.now last.items ≡ true = cc in
-    position-read keys c.args.text.now (c.len.result - 1) last c.len.ensures.unique at same
+    position-read (λ (k : Vec ℕ Global). k.items) keys c.args.text.now (c.len.result - 1) last c.len.ensures.unique at same
