@@ -1,5 +1,5 @@
 -- How generated histories end: their text has no fault, and their shelf is left alone.
-use Rattle.std.proofs.Common.{◌≡◌, ◌≢◌, ◌⊎◌, ℕ, ◌≤◌, List, None, Ok, Err, Result, refl, sym, ◌∙◌, inl, inr, arith}
+use Rattle.std.proofs.Common.{◌≡◌, ◌≢◌, ◌⊎◌, ℕ, List, None, Ok, Err, Result, refl, sym, ◌∙◌, inl, inr, arith}
 use Rattle.stale_model.specs.declared.History.{History}
 use Rattle.stale_model.specs.declared.Verdict.{Verdict}
 use Rattle.history_csv.specs.declared.HistoryFault.{HistoryFault}

@@ -20,7 +20,6 @@ use Rattle.cert_text.proofs.ReadsBack.{reads_back}
 use Rattle.cert_text.proofs.ShownChains.{all_pass}
 use Rattle.cert_text.proofs.ShownFits.{shown_fit}
 use Rattle.audit_ports.specs.Shelf.{file_at}
-use Rattle.audit_words.specs.declared.Task.TheVariants.{Check}
 use Rattle.audit_commands.specs.declared.status.Status.{Status}
 use Rattle.audit_commands.specs.declared.status.Status.TheVariants as status
 use Rattle.audit_commands.specs.Audit.{history_limit, cert_limit}

@@ -1,6 +1,6 @@
 //! Generated histories: what is written of them, and what their reports say.
 
-use crate::harness::{Row, output_of, run_row, run_table};
+use crate::harness::{Row, run_row, run_table, written_by};
 use std::test::Fail;
 
 // Worked by another program, by the rule in words.
@@ -30,7 +30,8 @@ const GREATEST_SEED: &str = "client,op,key,value,start,finish
 4,w,k0,v4,40,69
 ";
 
-const LINE_OF_ONE: &str = "total keys 1 operations 1 skipped 0 duplicate 0 unmatched 0 infinite 0 atomic 1 two 1 worst 0\n";
+const LINE_OF_ONE: &str =
+    "total keys 1 operations 1 skipped 0 duplicate 0 unmatched 0 infinite 0 atomic 1 two 1 worst 0\n";
 
 #[test]
 fn histories_are_written(rt: HostRuntime) -> Result<(), Fail> {
@@ -39,7 +40,11 @@ fn histories_are_written(rt: HostRuntime) -> Result<(), Fail> {
         &[
             Row::words("one operation", &["gen", "1", "1", "1"], ONE),
             Row::words("twelve", &["gen", "7", "12", "3"], TWELVE),
-            Row::words("leading zeros", &["gen", "007", "00000000000000000012", "03"], TWELVE),
+            Row::words(
+                "leading zeros",
+                &["gen", "007", "00000000000000000012", "03"],
+                TWELVE,
+            ),
             Row::words(
                 "the greatest seed",
                 &["gen", "18446744073709551615", "4", "5"],
@@ -132,7 +137,12 @@ fn failed_writes_are_told(rt: HostRuntime) -> Result<(), Fail> {
             with_out("no history is written", &["gen", "1", "1", "1"], &[1], ""),
             with_out("it is not flushed", &["gen", "1", "1", "1"], &[2], ONE),
             with_out("no line is written", &["trial", "1", "1", "1"], &[1], ""),
-            with_out("it is not flushed", &["trial", "1", "1", "1"], &[2], LINE_OF_ONE),
+            with_out(
+                "it is not flushed",
+                &["trial", "1", "1", "1"],
+                &[2],
+                LINE_OF_ONE,
+            ),
             Row {
                 out_fails: &[3],
                 shelf_fails: &[1],
@@ -152,8 +162,8 @@ fn key_of(line: &str) -> Option<u32> {
 #[test]
 fn keys_are_as_fresh_as_their_numbers_say(rt: HostRuntime) -> Result<(), Fail> {
     let generated = Row::words("fifty keys", &["gen", "7", "20000", "50"], "");
-    let history = output_of(&rt, &generated)?;
-    let report = output_of(&rt, &Row::audit("their report", &history, ""))?;
+    let (history, _) = written_by(&rt, &generated)?;
+    let (report, _) = written_by(&rt, &Row::audit("their report", &history, ""))?;
     let mut keys = 0u32;
     for line in str::from_utf8(&report)?.lines() {
         let Some(key) = key_of(line) else {
@@ -167,5 +177,27 @@ fn keys_are_as_fresh_as_their_numbers_say(rt: HostRuntime) -> Result<(), Fail> {
         keys += 1;
     }
     assert_eq!(rt; keys, 50);
+    Ok(())
+}
+
+// An audit with a certificate by so many workers.
+fn certify_by<'a>(history: &'a [u8], words: &'a [&'a str]) -> Row<'a> {
+    Row {
+        words,
+        ..Row::certify("a certificate", history, "", b"")
+    }
+}
+
+#[test]
+fn eight_workers_write_the_same(rt: HostRuntime) -> Result<(), Fail> {
+    let generated = Row::words("fifty keys", &["gen", "7", "200000", "50"], "");
+    let (history, _) = written_by(&rt, &generated)?;
+    let one = certify_by(&history, &["audit", "h", "--cert", "c"]);
+    let eight = certify_by(&history, &["audit", "h", "--cert", "c", "--workers", "8"]);
+    let (report, cert) = written_by(&rt, &one)?;
+    let (report_of_eight, cert_of_eight) = written_by(&rt, &eight)?;
+    assert!(rt; report == report_of_eight, "the report");
+    assert!(rt; cert == cert_of_eight, "the certificate");
+    run_row(&rt, &Row::check("it is good", &history, &cert, 0, "good\n"))?;
     Ok(())
 }

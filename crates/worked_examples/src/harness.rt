@@ -265,21 +265,23 @@ pub fn run_then_check<R: Threads + Sync + Abort + AllocGlobal>(
     run_row(rt, &Row::check(row.shows, row.history, cert, 0, "good\n"))
 }
 
-/// What the output gains by a row with status 0.
-pub fn output_of<R: Threads + Sync + Abort + AllocGlobal>(
+/// What a row with status 0 writes: the output, and the bytes of the file `c`, none where it is not there.
+pub fn written_by<R: Threads + Sync + Abort + AllocGlobal>(
     rt: &R,
     row: &Row,
-) -> Result<Vec<u8>, AllocError> {
+) -> Result<(Vec<u8>, Vec<u8>), AllocError> {
     let alloc = rt.alloc();
     let words = words_of(alloc, row.words)?;
     let mut shelf = shelf_of(alloc, row)?;
     let mut out = sink_of(alloc, &[])?;
     let mut err = sink_of(alloc, &[])?;
-    let status = run_offline(
-        rt, alloc, &words, &mut shelf, &mut out, &mut err, &OpenGate,
-    );
+    let status = run_offline(rt, alloc, &words, &mut shelf, &mut out, &mut err, &OpenGate);
     assert!(rt; status == 0);
-    Vec::from_slice(alloc, out.written())
+    let cert = shelf.file(b"c").unwrap_or(b"");
+    Ok((
+        Vec::from_slice(alloc, out.written())?,
+        Vec::from_slice(alloc, cert)?,
+    ))
 }
 
 /// Audits a history past a gate, where no call fails, and gives the status.

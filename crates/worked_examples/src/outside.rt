@@ -33,14 +33,32 @@ fn other_words_are_refused(rt: HostRuntime) -> Result<(), Fail> {
             with_words("another mode", &["judge", "h"]),
             with_words("no operation", &["gen", "1", "0", "1"]),
             with_words("two numbers", &["gen", "1", "1"]),
-            with_words("a seed of 65 bits", &["gen", "18446744073709551616", "1", "1"]),
+            with_words(
+                "a seed of 65 bits",
+                &["gen", "18446744073709551616", "1", "1"],
+            ),
             with_words("too many operations", &["gen", "1", "1000001", "1"]),
             with_words("too many keys", &["gen", "1", "1", "100001"]),
-            with_words("too many digits", &["gen", "000000000000000000001", "1", "1"]),
-            with_words("a generator with workers", &["gen", "1", "1", "1", "--workers", "2"]),
-            with_words("a trial with an output", &["trial", "7", "2000", "1", "--cert", "c"]),
-            with_words("a trial with no worker", &["trial", "1", "1", "1", "--workers", "0"]),
-            with_words("and with too many", &["trial", "1", "1", "1", "--workers", "65"]),
+            with_words(
+                "too many digits",
+                &["gen", "000000000000000000001", "1", "1"],
+            ),
+            with_words(
+                "a generator with workers",
+                &["gen", "1", "1", "1", "--workers", "2"],
+            ),
+            with_words(
+                "a trial with an output",
+                &["trial", "7", "2000", "1", "--cert", "c"],
+            ),
+            with_words(
+                "a trial with no worker",
+                &["trial", "1", "1", "1", "--workers", "0"],
+            ),
+            with_words(
+                "and with too many",
+                &["trial", "1", "1", "1", "--workers", "65"],
+            ),
             with_words("and a mode with two files", &["bench", "h", "h"]),
             with_words("no worker", &["audit", "h", "--workers", "0"]),
             with_words("too many workers", &["audit", "h", "--workers", "65"]),
