@@ -15,3 +15,5 @@ pub mod Placing
 pub mod Finishes
 pub mod Tables
 pub mod Ranked
+pub mod FinishOrders
+pub mod Slots

@@ -4,3 +4,5 @@ pub mod ListingLaws
 pub mod Scores
 pub mod ExistenceLaws
 pub mod Ranks
+pub mod FinishOrders
+pub mod Slots

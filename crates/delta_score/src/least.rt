@@ -4,8 +4,10 @@ ghost use Rattle.stale_model.specs.Zones.{HasNoConflict, last_record, IsFourOfPa
 ghost use Rattle.zones.specs.Conflicts.{HasConflict};
 ghost use Rattle.stale_model.specs.Clusters.{WriteRecordsDiffer};
 ghost use Rattle.zones.specs.Sweeps.{IsOrderOf};
+ghost use Rattle.delta_score.specs.FinishOrders.{AreByFinish};
 ghost use Rattle.delta_score.specs.Scores.{IsLeastWithoutConflict, IsLeast, AreBounds, IsNarrowed};
 
+use crate::conflicts::{conflict_in, in_finish_order};
 use crate::score::pair_score;
 use stale_model::{Cluster, Four, List, Memory};
 use std::alloc::Global;
@@ -43,43 +45,59 @@ fn greatest_span(clusters: &[Cluster]) -> u64
     spans.max().unwrap_or(0)
 }
 
-// The bounds after a sweep at d.
-fn narrowed(alloc: Global, d: u64, clusters: &[Cluster], bounds: Bounds) -> Result<Bounds, Memory>
-    requires differ { WriteRecordsDiffer clusters.now }
-    requires starts { All (λ c. c.w ≤ c.f) clusters.now }
-    requires bounds { AreBounds clusters.now bounds }
+// The bounds after a pass at d over the clusters in the order of f.
+fn narrowed(d: u64, sorted: &[Cluster], bounds: Bounds) -> Bounds
+    requires differ { WriteRecordsDiffer sorted.now }
+    requires starts { All (λ c. c.w ≤ c.f) sorted.now }
+    requires by_finish { AreByFinish sorted.now }
+    requires bounds { AreBounds sorted.now bounds }
     requires within { bounds.low ≤ d }
-    ensures bounds { IfOk result (AreBounds clusters.now) }
-    ensures narrowed { IfOk result (IsNarrowed d bounds) }
+    ensures bounds { AreBounds sorted.now result }
+    ensures narrowed { IsNarrowed d bounds result }
 {
     if bounds.high <= d {
-        return Ok(bounds);
+        return bounds;
     }
-    match sweep_clusters(alloc, d, clusters)? {
-        SweptClusters::Order(_) => Ok(Bounds { high: d, ..bounds }),
-        SweptClusters::Pair { earlier, later } => Ok(Bounds {
+    match conflict_in(d, sorted) {
+        None => Bounds { high: d, ..bounds },
+        Some((earlier, later)) => Bounds {
             low: pair_score(&earlier, &later),
             ..bounds
-        }),
+        },
     }
 }
 
 // The least d without conflict. Each turn tries the low bound, which is often the answer, and then
 // halves what is left.
-fn least_between(alloc: Global, clusters: &[Cluster], bounds: Bounds) -> Result<u64, Memory>
+fn least_between(sorted: &[Cluster], bounds: Bounds) -> u64
+    requires differ { WriteRecordsDiffer sorted.now }
+    requires starts { All (λ c. c.w ≤ c.f) sorted.now }
+    requires by_finish { AreByFinish sorted.now }
+    requires bounds { AreBounds sorted.now bounds }
+    ensures least { IsLeastWithoutConflict sorted.now result }
+    ensures above { bounds.low ≤ result }
+{
+    let mut between = bounds;
+    while between.low < between.high {
+        between = narrowed(between.low, sorted, between);
+        let middle = between.low.midpoint(between.high);
+        between = narrowed(middle, sorted, between);
+    }
+    between.low
+}
+
+// The least d without conflict. One order of the clusters serves all turns.
+fn least_within(alloc: Global, clusters: &[Cluster], bounds: Bounds) -> Result<u64, Memory>
     requires differ { WriteRecordsDiffer clusters.now }
     requires starts { All (λ c. c.w ≤ c.f) clusters.now }
     requires bounds { AreBounds clusters.now bounds }
     ensures least { IfOk result (IsLeastWithoutConflict clusters.now) }
     ensures above { IfOk result (λ delta. bounds.low ≤ delta) }
 {
-    let mut between = bounds;
-    while between.low < between.high {
-        between = narrowed(alloc, between.low, clusters, between)?;
-        let middle = between.low.midpoint(between.high);
-        between = narrowed(alloc, middle, clusters, between)?;
-    }
-    Ok(between.low)
+    let Ok(sorted) = in_finish_order(alloc, clusters) else {
+        return Err(Memory);
+    };
+    Ok(least_between(&sorted, bounds))
 }
 
 // The write records in the zone order at d, where no two clusters are in conflict.
@@ -143,7 +161,7 @@ pub fn least_delta(alloc: Global, clusters: &[Cluster]) -> Result<Least, Memory>
             high: greatest_span(clusters),
         },
     };
-    let delta = least_between(alloc, clusters, bounds)?;
+    let delta = least_within(alloc, clusters, bounds)?;
     Ok(Least {
         delta,
         order: order_at(alloc, delta, clusters)?,

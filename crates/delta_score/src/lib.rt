@@ -3,10 +3,12 @@
 //! Korach 1997).
 #![tactic(auto)]
 
+mod conflicts;
 mod existence_laws;
 mod least;
 mod listing_laws;
 mod order;
+mod parts;
 mod score;
 mod zone_laws;
 

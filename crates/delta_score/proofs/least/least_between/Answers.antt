@@ -2,10 +2,10 @@ use Rattle.std.proofs.Common.{arith}
 use Rattle.delta_score.proofs.LeastBounds.{low-le_high, least_where_met}
 use Rattle.delta_score.proofs.least.least_between.Goals as goal
 
-pub narrowed-requires-in-loop-between-clause-within :
-    goal.narrowed-requires-in-loop-between-clause-within
-narrowed-requires-in-loop-between-clause-within c =
-    let le = low-le_high _ _ c.in_ok-between.ensures.bounds in
+pub narrowed-between-requires-in-loop-between-clause-within :
+    goal.narrowed-between-requires-in-loop-between-clause-within
+narrowed-between-requires-in-loop-between-clause-within c =
+    let le = low-le_high _ _ c.narrowed-between.ensures.bounds in
     omega arith
 
 pub returns-clause-least : goal.returns-clause-least
