@@ -22,11 +22,11 @@ HasSeen word v = v.seen ≤ word
 
 -- the tickets of one seat differ
 seat_once : (budget word : ℕ) (seats : List Known) (id : ℕ) (v : Known) → get_elem? seats id ≡ some v → IsKept budget word seats → HasNoneTwice v.drawn
-seat_once budget word seats id v at k x = omega (arith, k.once x, part_le (λ u. times x u.drawn) seats id v at)
+seat_once budget word seats id v at k x = omega (arith, k.once x, part_le (λ (u : Known). times x u.drawn) seats id v at)
 
 -- the word itself was never drawn
 word_is_new : (budget word : ℕ) (seats : List Known) → IsKept budget word seats → times_drawn word seats ≡ 0
-word_is_new budget word seats k = total_zero (λ v. times word v.drawn) seats (λ id v at. let below = k.drawn id v at word in grind arith)
+word_is_new budget word seats k = total_zero (λ (v : Known). times word v.drawn) seats (λ id v at. let below = k.drawn id v at word in grind arith)
 
 kept_draw : (budget word : ℕ) (seats : List Known) (id : ℕ) (v : Known) → 1 ≤ v.left → get_elem? seats id ≡ some v → IsKept budget word seats
     → IsKept budget (word + 1) (set seats id (known (v.drawn ++ word ∷ []) (v.left - 1) (word + 1)))
@@ -37,13 +37,13 @@ kept_draw budget word seats id v some_left at k =
           (λ x there. let t = times_push x v.drawn word in let below = k.drawn id v at x in let b = k.begun in grind (arith, nat_tests))
           (λ j u at_u x there. let below = k.drawn j u at_u x there in (below.0, omega arith));
       once = λ x.
-          let total = total_set (λ u. times x u.drawn) seats id v w at in
+          let total = total_set (λ (u : Known). times x u.drawn) seats id v w at in
           let t = times_push x v.drawn word in
           let most = k.once x in
           let new = word_is_new budget word seats k in
           grind (arith, nat_tests);
       seen = each_set (HasSeen (word + 1)) seats id w (omega arith) (λ j u at_u. omega (arith, k.seen j u at_u));
-      counted = omega (arith, total_set (λ u. u.left) seats id v w at, k.counted, k.begun);
+      counted = omega (arith, total_set (λ (u : Known). u.left) seats id v w at, k.counted, k.begun);
     }
 
 kept_look : (budget word : ℕ) (seats : List Known) (id : ℕ) (v : Known) → get_elem? seats id ≡ some v → IsKept budget word seats
@@ -52,9 +52,9 @@ kept_look budget word seats id v at k =
     let w : Known = known v.drawn v.left word in record {
       begun = k.begun;
       drawn = each_set (DrewBelow word) seats id w (k.drawn id v at) k.drawn;
-      once = λ x. omega (arith, total_set (λ u. times x u.drawn) seats id v w at, k.once x);
+      once = λ x. omega (arith, total_set (λ (u : Known). times x u.drawn) seats id v w at, k.once x);
       seen = each_set (HasSeen word) seats id w (omega arith) k.seen;
-      counted = omega (arith, total_set (λ u. u.left) seats id v w at, k.counted);
+      counted = omega (arith, total_set (λ (u : Known). u.left) seats id v w at, k.counted);
     }
 
 kept_split : (n budget word : ℕ) (seats : List Known) (id : ℕ) (v : Known) → n ≤ v.left → get_elem? seats id ≡ some v → IsKept budget word seats
@@ -65,9 +65,9 @@ kept_split n budget word seats id v some_left at k =
     let rest : List Known = set seats id old in record {
       begun = k.begun;
       drawn = each_push (DrewBelow word) rest new (λ x there. absurd (omega arith)) (each_set (DrewBelow word) seats id old (k.drawn id v at) k.drawn);
-      once = λ x. omega (arith, total_set (λ u. times x u.drawn) seats id v old at, sum_by_push (λ (u : Known). times x u.drawn) rest new, k.once x);
+      once = λ x. omega (arith, total_set (λ (u : Known). times x u.drawn) seats id v old at, sum_by_push (λ (u : Known). times x u.drawn) rest new, k.once x);
       seen = each_push (HasSeen word) rest new (k.seen id v at) (each_set (HasSeen word) seats id old (k.seen id v at) k.seen);
-      counted = omega (arith, total_set (λ u. u.left) seats id v old at, sum_by_push (λ (u : Known). u.left) rest new, k.counted);
+      counted = omega (arith, total_set (λ (u : Known). u.left) seats id v old at, sum_by_push (λ (u : Known). u.left) rest new, k.counted);
     }
 
 -- what the seat knows that took in another
@@ -87,13 +87,13 @@ kept_join budget word seats id v other w at two at_rest k =
           (λ x there. let t = times_append x v.drawn w.drawn in let a = k.drawn id v at x in let b = k.drawn other w at_other x in grind arith) k.drawn);
       once = λ x. omega (
         arith,
-        total_set (λ u. times x u.drawn) seats id v both at,
-        total_set (λ u. times x u.drawn) rest other w spent at_rest,
+        total_set (λ (u : Known). times x u.drawn) seats id v both at,
+        total_set (λ (u : Known). times x u.drawn) rest other w spent at_rest,
         times_append x v.drawn w.drawn,
         k.once x,
       );
       seen = each_set (HasSeen word) rest other spent (omega arith) (each_set (HasSeen word) seats id both (let a = k.seen id v at in let b = k.seen other w at_other in omega arith) k.seen);
-      counted = omega (arith, total_set (λ u. u.left) seats id v both at, total_set (λ u. u.left) rest other w spent at_rest, k.counted);
+      counted = omega (arith, total_set (λ (u : Known). u.left) seats id v both at, total_set (λ (u : Known). u.left) rest other w spent at_rest, k.counted);
     }
 
 -- the one word is the number that a step finds
@@ -104,7 +104,7 @@ pub draws : (budget slots id : ℕ) (me : Me Unit Known) → budget < 2 ^ 62 →
     → Allows (Keeps budget) slots id me 0 (λ n. (n + 1) % 2 ^ 64) (Draws (step slots 0 1 0 none) me)
 draws budget slots id me short some_left s (word, words, k) len at fits =
     let found = found_is s word words in
-    let more = part_le (λ v. v.left) s.views id me.0 at in
+    let more = part_le (λ (v : Known). v.left) s.views id me.0 at in
     let counted = k.counted in
     let begun = k.begun in
     let next : (slice_index s.words 0 + 1) % 2 ^ 64 ≡ word + 1 = omega arith in (
@@ -119,7 +119,7 @@ pub looks : (budget slots id : ℕ) (me : Me Unit Known) → Allows (Keeps budge
 looks budget slots id me s (word, words, k) len at fits =
     let found = found_is s word words in
     let once = seat_once budget word s.views id me.0 at k in
-    let more = part_le (λ v. v.left) s.views id me.0 at in
+    let more = part_le (λ (v : Known). v.left) s.views id me.0 at in
     let counted = k.counted in (
       known me.0.drawn me.0.left (slice_index s.words 0),
       keeps,
