@@ -1,6 +1,6 @@
 -- Verdicts that are put at the places of their keys.
-use Rattle.std.proofs.Common.{◌≡◌, ◌≢◌, ℕ, suc, ◌+◌, ◌-◌, ◌<◌, List, [], ◌∷◌, ◌++◌, length, set, Some, refl, sym, ap, inl, inr, subst, append_assoc, arith, ◌∙◌}
-use Rattle.std.specs.Prelude.{slice_get, All}
+use Rattle.std.proofs.Common.{◌≡◌, ◌≢◌, ℕ, ◌+◌, ◌-◌, ◌<◌, List, [], ◌∷◌, ◌++◌, length, set, Some, refl, sym, ap, inl, inr, subst, append_assoc, arith, ◌∙◌}
+use Rattle.std.specs.Prelude.{slice_get}
 use Rattle.std.proofs.lemmas.Bool.Decides.{nat_tests}
 use Rattle.std.proofs.lemmas.List.{length-set, map-append}
 use Rattle.std.proofs.lemmas.List.Elements.{All-cons}
@@ -100,7 +100,3 @@ module _ (keys : List KeyOps) where
         let once = keys_are_claimed_once (length keys) gathered.calls drawn (omega (arith, gathered.as_many)) gathered.holds counted (place + 1) (omega arith) (omega arith) in
         gathered.filled.each place key verdict (omega arith) at_key at_verdict;
   }
-
--- what each of a list has, each but the first has
-pub all_but_first : {X : Type 0} (P : X → Type 0) (x : X) (xs ys : List X) → ys ≡ x ∷ xs → All P ys → All P xs
-all_but_first P x xs ys e all = λ i d less. subst (λ l. All P l) e all (suc i) d (omega arith)

@@ -6,7 +6,8 @@ use Rattle.stale_model.specs.Truth.{IsTrueOf}
 use Rattle.stale_model.specs.Shown.{IsShown}
 use Rattle.audit_workers.specs.Claims.{IsClaim, keys_of}
 use Rattle.audit_workers.proofs.Truth.{verdicts_are_true, verdicts_are_shown}
-use Rattle.audit_workers.proofs.Claimed.{on_err, claims_have, drew_one, drew_claim}
+use Rattle.audit_workers.proofs.Drawn.{on_err, drew_one, drew_claim}
+use Rattle.audit_workers.proofs.Claimed.{claims_have}
 use Rattle.audit_workers.proofs.claims.judge_claims.Goals as goal
 
 pub returns-in_err-claim-clause-err : goal.returns-in_err-claim-clause-err

@@ -1,9 +1,10 @@
 use Rattle.std.proofs.Common.{rules, arith, ap, ◌∙◌, sym, ◌≡◌, ◌∷◌, ◌++◌, [], subst, length, append_assoc, append-nil}
 use Rattle.std.proofs.lemmas.List.{nil_from_length}
+use Rattle.std.proofs.lemmas.List.Elements.{All-tail}
 use Rattle.std.specs.Vec.Iter.{into_iter_items}
 use Rattle.stale_model.specs.PrintedVerdicts.{IsPrintedVerdict}
-use Rattle.audit_workers.proofs.Filling.{all_but_first, filled_more}
-use Rattle.audit_workers.specs.Claims.{IsClaim, keys_of}
+use Rattle.audit_workers.proofs.Filling.{filled_more}
+use Rattle.audit_workers.specs.Claims.{IsClaim, AreClaims, keys_of}
 use Rattle.audit_workers.specs.Workers.{IsFilled}
 use Rattle.audit_workers.proofs.workers.put_all.Goals as goal
 
@@ -17,7 +18,7 @@ loop-claim-preserved c =
       yielded = append_assoc at.yielded (x ∷ []) _ ∙ rw (← steps) at.invariant.yielded;
       ends = let was = at.invariant.ends in let gone = c.in-Some.ensures.steps.1 in let short = ap length steps in omega arith;
       many = search rules;
-      are = all_but_first (IsClaim IsPrintedVerdict keys) x _ _ steps at.invariant.are;
+      are = All-tail (IsClaim IsPrintedVerdict keys) x _ (subst (λ claims. AreClaims IsPrintedVerdict keys claims) steps at.invariant.are);
       filled = λ claimed filled. filled_more keys claimed at.yielded x c.put.new.verdicts.items (c.put.ensures.filled _ (at.invariant.filled claimed filled));
     }
 
