@@ -1,5 +1,5 @@
 -- What a pass of a box learns from the rule.
-use Rattle.std.proofs.Common.{◌≡◌, ℕ, ◌+◌, ◌<◌, ◌≤◌, true, List, [], ◌∷◌, ◌++◌, length, sym, refl, ap, ◌∙◌, arith, length-append}
+use Rattle.std.proofs.Common.{◌≡◌, ℕ, ◌+◌, ◌<◌, ◌≤◌, true, List, [], ◌∷◌, ◌++◌, length, sym, refl, ap, ◌∙◌, subst, arith, length-append}
 use Rattle.std.proofs.lemmas.List.{append-nil}
 use Rattle.std.proofs.lemmas.Bool.Decides.{nat_tests}
 use mathlib.Core.List.{IsPrefix}
@@ -38,6 +38,11 @@ module _ {M : Type 0} (from : M → ℕ) where
       let n : ℕ = u.number in let a = times_append n v.held u.held in let m : times n u.held ≡ 1 = rw mine (grind (arith, nat_tests)) in let once = told.4 n in
       let e : letters_of from n (v.sent ++ u.sent) ≡ letters_of from n v.taken ++ letters_of from n items = told.1 may n (omega arith) in
       (letters_of from n items, sym e ∙ letters_append from n v.sent u.sent ∙ ap (λ l. l ++ letters_of from n u.sent) (own n (omega arith)) ∙ all)
+
+  -- and so of each sender that is here then
+  pub each_prefix_of : (v u : View M) (items : List M) → u.held ≡ u.number ∷ [] → v.takes ≡ true → Tells from (with_sender v u) items
+      → (s : ℕ) → 0 < times s (v.held ++ u.number ∷ []) → IsPrefix (letters_of from s v.taken) (letters_of from s (v.sent ++ u.sent))
+  each_prefix_of v u items mine may told s here = (letters_of from s items, sym (told.1 may s (subst (λ (l : List ℕ). 0 < times s (v.held ++ l)) (sym mine) here)))
 
   -- the same of each sender that was gathered before the taker
   pub prefixes_of : (v u : View M) (items : List M) → Tells from (with_taker v u) items → (s : ℕ) → 0 < times s v.held → IsPrefix (letters_of from s u.taken) (letters_of from s v.sent)

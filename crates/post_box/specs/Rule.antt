@@ -57,7 +57,7 @@ module _ {M : Type 0} (from : M → ℕ) where
   abbrev pub Tells : View M → List M → Type 0
   Tells v items =
       (v.live ≡ true → v.takes ≡ true → length v.taken + length items ≤ v.capacity)
-      × (v.takes ≡ true → (s : ℕ) → 0 < times s v.held → letters_of from s v.sent ≡ letters_of from s v.taken ++ letters_of from s items)
-      × (v.takes ≡ true → v.is_whole ≡ true → (s : ℕ) → 0 < length (letters_of from s v.taken) → 0 < times s v.given)
-      × ((s : ℕ) → times s v.held ≡ 0 → letters_of from s v.sent ≡ [])
-      × ((s : ℕ) → times s v.held ≤ 1)
+      × (v.takes ≡ true → (s : ℕ) → 0 < held_by s v → letters_of from s v.sent ≡ letters_of from s v.taken ++ letters_of from s items)
+      × (v.takes ≡ true → v.is_whole ≡ true → (s : ℕ) → 0 < length (letters_of from s v.taken) → 0 < given_by s v)
+      × ((s : ℕ) → held_by s v ≡ 0 → letters_of from s v.sent ≡ [])
+      × ((s : ℕ) → held_by s v ≤ 1)

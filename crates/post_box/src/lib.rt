@@ -179,9 +179,10 @@ impl<M: Letter> PostBox<M> {
         }
     }
 
-    /// Takes in a sender. Where the taker is here, what was taken of the sender is a beginning of
-    /// what it sent, and each letter taken is of a sender whose number was given out. The step that
-    /// joins the passes tells nothing, so a look follows, which tells this.
+    /// Takes in a sender. Where the taker is here, what was taken of this sender, and of each that
+    /// is here, is a beginning of what it sent, and each letter taken is of a sender whose number
+    /// was given out. The step that joins the passes tells nothing, so a look follows, which tells
+    /// this.
     pub fn gather_sender<R: Wait>(&self, _rt: &R, whole: &mut Whole<M>, pass: SenderPass<M>)
         requires own { (whole.old.box ≡ self.now) × (pass.box ≡ self.now) }
         ensures whole { whole.new ≡ record whole.old {
@@ -194,6 +195,10 @@ impl<M: Letter> PostBox<M> {
             → 0 < times s whole.old.numbers }
         ensures taken { whole.old.takes ≡ true
             → IsPrefix (letters_of M.from pass.number whole.old.taken) pass.sent }
+        ensures each { whole.old.takes ≡ true → (s : ℕ)
+            → 0 < times s (whole.old.gathered ++ pass.number ∷ [])
+            → IsPrefix (letters_of M.from s whole.old.taken)
+            (letters_of M.from s (whole.old.sent ++ pass.sent)) }
     {
         let SenderPass { pass } = pass;
         self.queue.absorb::<GatherSender>(&mut whole.pass, pass);

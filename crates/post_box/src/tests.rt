@@ -26,12 +26,6 @@ impl Letter for Note {
     }
 }
 
-fn note(from: u32, before: u32) -> Note
-    ensures { result.from ≡ from }
-{
-    Note { from, before }
-}
-
 // Sends so many letters, numbered from 0 on.
 fn send_all<R: Wait>(
     rt: &R,
@@ -47,7 +41,7 @@ fn send_all<R: Wait>(
     ensures budget { result.budget + count ≡ pass.budget }
 {
     for before in 0..count {
-        post.send(rt, &mut pass, note(from, before));
+        post.send(rt, &mut pass, Note { from, before });
     }
     pass
 }
@@ -267,9 +261,9 @@ fn two_senders_in_turn_then_none(rt: HostRuntime) -> Result<(), Fail> {
     let mut zero = post.split_sender(&rt, &mut whole, 0, 2);
     let mut one = post.split_sender(&rt, &mut whole, 1, 1);
     let mut taker = post.split_taker(&rt, &mut whole);
-    post.send(&rt, &mut zero, note(0, 0));
-    post.send(&rt, &mut one, note(1, 0));
-    post.send(&rt, &mut zero, note(0, 1));
+    post.send(&rt, &mut zero, Note { from: 0, before: 0 });
+    post.send(&rt, &mut one, Note { from: 1, before: 0 });
+    post.send(&rt, &mut zero, Note { from: 0, before: 1 });
     assert_eq!(rt; shown(post.take(&rt, &mut taker)), (0, 0));
     assert_eq!(rt; shown(post.take(&rt, &mut taker)), (1, 0));
     assert_eq!(rt; shown(post.take(&rt, &mut taker)), (0, 1));
