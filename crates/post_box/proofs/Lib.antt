@@ -1,0 +1,4 @@
+pub mod Totals
+pub mod Letters
+pub mod Steps
+pub mod Told
