@@ -247,7 +247,10 @@ fn a_place_taken_and_put_back(rt: HostRuntime) -> Result<(), Fail> {
         panic!(rt; "no candidate")
     };
     lists.place(first);
-    assert_eq!(rt; ends_of(&lists), ([Some(2), Some(1), Some(2)], (Some(1), None)));
+    assert_eq!(rt;
+        ends_of(&lists),
+        ([Some(2), Some(1), Some(2)], (Some(1), None))
+    );
     lists.undo();
     assert_eq!(rt; ends_of(&lists), whole);
     Ok(())
