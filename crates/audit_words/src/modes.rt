@@ -5,10 +5,10 @@ ghost use Rattle.clap.specs.Words.{found_of, rows_of};
 ghost use Rattle.audit_words.specs.Limits.{IsWithin, IsWorkload};
 ghost use Rattle.audit_words.specs.Tasks.{audit_of, check_of, workload_of, gen_of, trial_of, task_in};
 
-use crate::{Task, Workload};
 use crate::files::{are_two_names, is_name};
 use crate::line::{gives_only, value_in, values_in};
 use crate::number::{number_within, workers_of};
+use crate::{Task, Workload};
 use clap::ArgMatches;
 use stale_model::{Bytes, Memory};
 use std::alloc::Global;
