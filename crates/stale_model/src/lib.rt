@@ -3,10 +3,15 @@
 
 ghost use Rattle.std.specs.Prelude.{◌≡◌, ℕ, List, IfOk};
 
+mod store;
+
 use std::alloc::Global;
 use std::iter::{self, Chain, Copied, Once};
 use std::marker::Model;
 use std::slice;
+pub use store::{
+    Ask, Entry, JournalEntry, MOST_REPLICAS, Plan, PlanCall, Reply, Request, Settings, Took,
+};
 
 /// Want of memory: the one answer that every call which allocates may give.
 #[derive(Clone, Copy, Debug, PartialEq, Eq)]
