@@ -21,7 +21,7 @@ pub use passes::{SenderPass, TakerPass, Whole};
 use rule::{
     BoxRule, CountEmpty, CutSender, CutTaker, GatherSender, GatherTaker, Open, Picked, Pop, Push,
 };
-use stale_model::Memory;
+use stale_model::{Memory, Reply};
 use std::alloc::Global;
 use std::marker::{Brand, Model};
 use std::sync::Wait;
@@ -36,6 +36,15 @@ pub trait Letter: Sized + Send {
     /// The number of its sender.
     fn sender(&self) -> u32
         ensures { result ≡ from self.now };
+}
+
+impl Letter for Reply {
+    ghost from = { λ reply. reply.replica };
+
+    // A reply is sent by its replica.
+    fn sender(&self) -> u32 {
+        self.replica
+    }
 }
 
 type Queue<M> = RuledArrayQueue<M, View<M>, BoxRule<M>>;

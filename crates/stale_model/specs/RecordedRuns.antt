@@ -69,7 +69,8 @@ pub record IsReplyTo (journals : List (List JournalEntry)) (e : Entry) (t : Took
 
 -- part 3: a call took as many replies as its quorum says, of different replicas, each of them given while it ran
 pub record AreTaken (settings : Settings) (journals : List (List JournalEntry)) (e : Entry) : Type 0 where
-  pub many : e.took_count ≡ quorum settings e.kind
+  pub count : e.took_count ≡ quorum settings e.kind
+  pub many : length (taken_by e) ≡ e.took_count
   pub each : (t : Took) → Contains (taken_by e) t → IsReplyTo journals e t
   pub apart : IsWithoutRepeats (map (λ t. t.replica) (taken_by e))
   pub others : All (λ t. t ≡ no_took) (drop e.took_count e.took)
