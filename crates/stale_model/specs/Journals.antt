@@ -1,5 +1,5 @@
 -- A replica: what it holds of a key, and what its journal says of each request.
-use Rattle.std.specs.Prelude.{◌≡◌, ℕ, ◌<◌, ◌==◌, ◌&&◌, Bool, true, false, nat_lt, if◌then◌else◌, not, List, [], ◌∷◌, Some, All, take, slice_get}
+use Rattle.std.specs.Prelude.{◌≡◌, ℕ, ◌<◌, ◌==◌, ◌&&◌, Bool, true, false, nat_lt, if◌then◌else◌, List, [], ◌∷◌, Some, All, take, slice_get}
 use Rattle.stale_model.specs.declared.store.Ask.{Ask}
 use Rattle.stale_model.specs.declared.store.Ask.TheVariants.{Read, Write, Repair}
 use Rattle.stale_model.specs.declared.store.Request.{Request}
