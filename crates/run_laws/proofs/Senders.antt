@@ -1,8 +1,8 @@
 -- Whose call the request of a journal entry is.
-use Rattle.std.proofs.Common.{◌≡◌, ◌⊎◌, ℕ, ◌+◌, ◌<◌, Bool, true, false, not, cond, List, [], ◌∷◌, take, sym, ◌∙◌, ap, inl, inr, subst, arith, eq-eqb}
-use Rattle.std.specs.Prelude.{◌==◌, Some, Contains, All, slice_get}
+use Rattle.std.proofs.Common.{◌≡◌, ◌⊎◌, ℕ, ◌<◌, Bool, true, false, not, cond, List, [], ◌∷◌, take, sym, ◌∙◌, ap, inl, inr, subst, arith, eq-eqb}
+use Rattle.std.specs.Prelude.{◌==◌, Contains}
 use Rattle.std.specs.List.{filter, flat_map}
-use Rattle.std.proofs.lemmas.Bool.{both_ways, eqb-true}
+use Rattle.std.proofs.lemmas.Bool.{both_ways, not-true, eqb-true}
 use Rattle.std.proofs.lemmas.List.Elements.{All-contains}
 use Rattle.stale_model.specs.declared.store.Request.{Request}
 use Rattle.stale_model.specs.declared.store.Reply.{Reply}
@@ -15,7 +15,7 @@ use Rattle.stale_model.specs.RecordedRuns.{served_for, requests_of}
 use Rattle.stale_model.proofs.Places.{at_its_place, place_of, same_at}
 use Rattle.stale_model.proofs.Sorted.{first_or_later}
 use Rattle.stale_model.proofs.Members.{empty_has_none, begun_with, taken_is_there, kept_is_there, kept_passes, kept_from, mapped_from, before_mapped, before_flattened}
-use Rattle.run_laws.specs.Laws.{AreCallsOf, AreCallsServed, StandsIn, TookStandInJournal, replies_to, taken_of}
+use Rattle.run_laws.specs.Laws.{AreCallsOf, TookStandInJournal, replies_to, taken_of}
 
 -- an entry of a journal, with those before it
 pub record IsEntryAfter (replica : ℕ) (js : List JournalEntry) (j : JournalEntry) : Type 0 where
@@ -80,10 +80,6 @@ module _ (client replica : ℕ) (es : List Entry) (js : List JournalEntry) (requ
         | inr repair ↦ absurd (both_ways (is_repair j.request.ask) plain (ap (λ (q : Request). is_repair q.ask) repair))
       ]
 
-not_true : (b : Bool) → not b ≡ true → b ≡ false
-not_true true t = sym t
-not_true false t = cc
-
 pub took_stand_in_journal : TookStandInJournal
 took_stand_in_journal client replica es js taken e l met there took from seq =
     let mine = kept_from (λ (x : Reply). x.replica == replica) taken l took (eq-eqb l.replica replica from) in
@@ -95,7 +91,7 @@ took_stand_in_journal client replica es js taken e l met there took from seq =
     let is = eqb-true j.request.client client (kept_passes (λ (i : JournalEntry). i.request.client == client) js j of_client) in
     let served = (served_at replica js j met.journal in_journal).served in
     let number : j.request.seq ≡ e.seq = sym served.seq ∙ (ap (λ (r : Reply). r.seq) reply ∙ seq) in
-    let request = to_the_call client replica es js met.requests j e met.calls in_journal is (not_true (is_repair j.request.ask) plain) there number in
+    let request = to_the_call client replica es js met.requests j e met.calls in_journal is (not-true (is_repair j.request.ask) plain) there number in
     record {
       entry = j;
       there = in_journal;
