@@ -2,6 +2,7 @@ pub mod ReadsAndWrites
 pub mod Places
 pub mod Comparisons
 pub mod Sorted
+pub mod Members
 pub mod Sorting
 pub mod Lookup
 pub mod LeastRecords

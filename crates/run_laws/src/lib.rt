@@ -1,0 +1,21 @@
+//! Laws of the definitions of recorded runs, as theorems: functions whose contracts are all that they are for.
+#![tactic(auto)]
+
+ghost use Rattle.run_laws.specs.Laws.{TookStandInJournal, ReadsReturnEarlierWrites, ReplicasDropNone};
+
+/// A reply that a client took of a replica, with the number of one of its calls, stands in the journal of the replica as
+/// the reply to that call.
+pub fn took_stand_in_journal()
+    ensures { TookStandInJournal }
+{}
+
+/// A read of a recorded run returns the initial value, or one that a call wrote on its key that started before the read
+/// finished.
+pub fn reads_return_earlier_writes()
+    ensures { ReadsReturnEarlierWrites }
+{}
+
+/// A replica serves all requests of a run, in the order in which they come.
+pub fn replicas_drop_none()
+    ensures { ReplicasDropNone }
+{}
