@@ -5,7 +5,8 @@ use Rattle.std.proofs.lemmas.List.Elements.{All-filter, All-map, All-nil, All-pu
 use Rattle.stale_model.specs.declared.Kind.{Kind}
 use Rattle.stale_model.specs.declared.Kind.TheVariants.{Read, Write}
 use Rattle.stale_model.specs.declared.Line.{Line}
-use Rattle.history_gen.specs.Generated.{age_of, value_of_age, values_written, writes_to, line_with, line_on, next_line, lines_of, word}
+use Rattle.seeded_words.specs.Words.{word}
+use Rattle.history_gen.specs.Generated.{age_of, value_of_age, values_written, writes_to, line_with, line_on, next_line, lines_of}
 
 -- a line of one of the first n operations on this many keys
 pub record IsGenerated (keys n : ℕ) (line : Line) : Type 0 where

@@ -1,24 +1,10 @@
--- The lines of a generated history: words of Pcg32 (O'Neill, 2014), and a rule of the project's own.
+-- The lines of a generated history: the words of a seed, and a rule of the project's own.
 use Rattle.std.specs.Prelude.{ℕ, zero, suc, ◌+◌, ◌-◌, ◌*◌, ◌%◌, ◌==◌, ◌&&◌, Bool, if◌then◌else◌, min, List, [], ◌∷◌, ◌++◌, length, map, filter, reverse, get_or}
-use Rattle.rand_core.specs.Pcg32Seed.{pcg32_seed}
-use Rattle.rand_pcg.specs.Lcg.{Lcg, advance}
-use Rattle.rand_pcg.specs.Pcg.{multiplier_64, pcg32, pcg32_of_seed}
+use Rattle.seeded_words.specs.Words.{word}
 use Rattle.stale_model.specs.declared.Kind.{Kind}
 use Rattle.stale_model.specs.declared.Kind.TheVariants.{Read, Write}
 use Rattle.stale_model.specs.declared.Line.{Line}
 use Rattle.stale_model.specs.Operations.{is_write_kind}
-
--- the generator of a seed
-abbrev pub generator_of : ℕ → Lcg
-generator_of seed = pcg32_of_seed (pcg32_seed 16 seed)
-
--- the word that a generator gives after j others
-abbrev pub word_after : ℕ → Lcg → ℕ
-word_after j generator = (pcg32 (advance 64 multiplier_64 j generator)).0
-
--- word j of a seed, counted from 0
-abbrev pub word : ℕ → ℕ → ℕ
-word seed j = word_after j (generator_of seed)
 
 -- whether a line is a write to this key
 abbrev pub writes_to : ℕ → Line → Bool

@@ -5,9 +5,7 @@ ghost use Rattle.std.specs.Prelude.{◌≡◌, ℕ, ◌+◌, ◌-◌, ◌<◌, �
 ghost use Rattle.history_gen.specs.Generated.{age_of, value_of_age, line_with, line_on, lines_of};
 ghost use Rattle.history_gen.specs.LastWrites.{AreLastThree, AreLastWrites};
 
-use rand_core::SeedableRng;
-use rand_core::utils::NextWord;
-use rand_pcg::Pcg32;
+use seeded_words::Words;
 use stale_model::{Kind, Line, List, Memory};
 use std::alloc::Global;
 
@@ -42,7 +40,7 @@ pub fn gen_history(alloc: Global, seed: u64, ops: u32, keys: u32) -> Result<List
 // What is known between two operations.
 #[derive(Drop)]
 struct Generator {
-    words: Pcg32,
+    words: Words,
     // The last three values written to each key, the newest first; 0 stands for none.
     last_writes: Vec<[u32; 3]>,
     lines: Vec<Line>,
@@ -56,7 +54,7 @@ impl Generator {
         ensures { IfOk result (HasMade seed keys 0) }
     {
         Ok(Generator {
-            words: Pcg32::seed_from_u64(seed),
+            words: Words::of_seed(seed),
             last_writes: vec![in alloc; [0; 3]; keys as usize].map_err(|_| Memory)?,
             lines: Vec::with_capacity(alloc, ops as usize).map_err(|_| Memory)?,
         })
@@ -69,9 +67,9 @@ impl Generator {
         ensures { (seed n : ℕ) → i ≡ n + 1 → HasMade seed keys n self.old
             → OnOk result (HasMade seed keys i self.new) }
     {
-        let key = self.words.next_word() % keys;
-        let kind_word = self.words.next_word();
-        let age_word = self.words.next_word();
+        let key = self.words.draw() % keys;
+        let kind_word = self.words.draw();
+        let age_word = self.words.draw();
         let line = line_on(i, key, self.last_writes[key as usize], kind_word, age_word);
         note(&mut self.last_writes, &line);
         self.lines.push(line).map_err(|_| Memory)?;
