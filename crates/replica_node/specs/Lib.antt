@@ -1,0 +1,3 @@
+pub mod Replicas
+pub mod Pairs
+pub mod Invariant
