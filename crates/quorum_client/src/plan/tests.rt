@@ -1,33 +1,6 @@
-//! Plans worked by hand, and one that an independent program made.
+//! A plan worked by hand, and one that an independent program made.
 use super::*;
 use std::test::Fail;
-
-// Settings of one replica and one recorder.
-fn settings(clients: u32, calls: u32, keys: u32, writes: u32, seed: u64) -> Settings
-    ensures { result ≡ record {
-      clients = clients;
-      replicas = 1;
-      calls = calls;
-      keys = keys;
-      read_quorum = 1;
-      write_quorum = 1;
-      writes = writes;
-      seed = seed;
-      shards = 1;
-    } }
-{
-    Settings {
-        clients,
-        replicas: 1,
-        calls,
-        keys,
-        read_quorum: 1,
-        write_quorum: 1,
-        writes,
-        seed,
-        shards: 1,
-    }
-}
 
 fn read(key: u32) -> PlanCall {
     PlanCall {
@@ -47,7 +20,18 @@ fn write(key: u32, value: u32) -> PlanCall {
 
 #[test]
 fn numbers_the_writes_of_two_clients(rt: HostRuntime) -> Result<(), Fail> {
-    let plan = plan_of(rt.alloc(), &settings(2, 2, 1, 100, 0))?;
+    let settings = Settings {
+        clients: 2,
+        replicas: 1,
+        calls: 2,
+        keys: 1,
+        read_quorum: 1,
+        write_quorum: 1,
+        writes: 100,
+        seed: 0,
+        shards: 1,
+    };
+    let plan = plan_of(rt.alloc(), &settings)?;
     let clients = plan.clients.as_slice();
     assert!(rt; clients.len() == 2);
     assert_eq!(rt;
@@ -63,7 +47,18 @@ fn numbers_the_writes_of_two_clients(rt: HostRuntime) -> Result<(), Fail> {
 
 #[test]
 fn plans_eight_calls_of_seed_one(rt: HostRuntime) -> Result<(), Fail> {
-    let plan = plan_of(rt.alloc(), &settings(2, 4, 4, 50, 1))?;
+    let settings = Settings {
+        clients: 2,
+        replicas: 1,
+        calls: 4,
+        keys: 4,
+        read_quorum: 1,
+        write_quorum: 1,
+        writes: 50,
+        seed: 1,
+        shards: 1,
+    };
+    let plan = plan_of(rt.alloc(), &settings)?;
     let clients = plan.clients.as_slice();
     assert!(rt; clients.len() == 2);
     let first = [read(2), write(0, 2), write(0, 3), read(0)];
