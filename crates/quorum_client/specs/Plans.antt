@@ -15,7 +15,7 @@ numbered_call s number kind_word key_word =
     then record { kind = Write; key = key_word % s.keys; value = number }
     else record { kind = Read; key = key_word % s.keys; value = 0 }
 
--- the call with so many calls before it, those of the clients before included: each took two words
+-- the call with so many before it, of its own client and of those before: each takes two words
 abbrev pub planned_call : Settings → ℕ → PlanCall
 planned_call s before = numbered_call s (before + 1) (word s.seed (2 * before)) (word s.seed (2 * before + 1))
 

@@ -11,10 +11,12 @@ use std::alloc::Global;
 
 /// The plan of a run with these settings: a list of calls for each client.
 ///
-/// Clients come in their order, and the calls of each in theirs. Each call takes the next two words
-/// of the seed, a and b. It is a write where a mod 100 is less than `writes`, else a read, and its
-/// key is b mod `keys`. The number of call `seq` of a client is client × `calls` + `seq`: it is the
-/// value of a write, and that of a read is 0.
+/// Clients come in order from 0, and the calls of each in order from 1. Each call takes the next
+/// two words of the seed, a and b.
+///
+/// - It is a write where a mod 100 is less than `writes`, else a read.
+/// - Its key is b mod `keys`.
+/// - The value of a write is client × `calls` + the number of the call, and that of a read is 0.
 ///
 /// The error is `Memory`, where memory runs out.
 pub fn plan_of(alloc: Global, settings: &Settings) -> Result<Plan, Memory>
@@ -44,7 +46,8 @@ fn next_calls(
     requires client { client < settings.now.clients }
     requires drawn { HasDrawn settings.now.seed (2 * (client * settings.now.calls)) words.old }
     ensures calls { IfOk result (λ calls. calls ≡ planned_calls settings.now client) }
-    ensures words { OnOk result (HasDrawn settings.now.seed (2 * ((client + 1) * settings.now.calls)) words.new) }
+    ensures words { OnOk result
+        (HasDrawn settings.now.seed (2 * ((client + 1) * settings.now.calls)) words.new) }
 {
     let before = client * settings.calls;
     let mut calls = Vec::with_capacity(alloc, settings.calls as usize).map_err(|_| Memory)?;
