@@ -1,0 +1,6 @@
+//! The clients of the store: what each of them is to do.
+#![tactic(auto)]
+
+mod plan;
+
+pub use plan::plan_of;
