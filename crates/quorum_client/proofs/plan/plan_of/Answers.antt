@@ -1,3 +1,4 @@
+-- The calls of one client more, and that the plan is whole.
 use Rattle.std.proofs.Common.{rules, ◌≡◌, ℕ, List, [], ◌∷◌, ◌++◌, map, true, sym, ap, subst, arith, ◌∙◌}
 use Rattle.std.specs.Prelude.{is_ok}
 use Rattle.std.specs.List.{range_with_len}

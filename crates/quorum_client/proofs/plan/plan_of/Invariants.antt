@@ -1,3 +1,4 @@
+-- After the calls of so many clients, these and no others are made, and their words are drawn.
 use Rattle.std.proofs.Common.{◌≡◌, ◌*◌, map}
 use Rattle.std.specs.List.{range_with_len}
 use Rattle.seeded_words.specs.Drawn.{HasDrawn}
