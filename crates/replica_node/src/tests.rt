@@ -1,5 +1,5 @@
 //! What a replica answers to three requests, worked by hand.
-ghost use Rattle.std.specs.Prelude.{◌≡◌, ◌+◌, ◌<◌, ◌≤◌, length, IfOk};
+ghost use Rattle.std.specs.Prelude.{◌≡◌, ◌+◌, ◌<◌, ◌≤◌};
 
 use crate::{Ask, Memory, Replica, Reply, Request};
 use std::alloc::Global;
