@@ -9,7 +9,8 @@ use Rattle.stale_model.specs.declared.End.TheVariants.{Hard, Soft}
 use Rattle.stale_model.specs.Chains.{without, late_writes, late_reads, is_later, latest, demand_of, demand, nothing, one, impossible}
 use Rattle.stale_model.specs.Zones.{reads_start}
 use Rattle.stale_model.proofs.Sorted.{first_or_later, contains_later}
-use Rattle.lbt_epochs.proofs.Filters.{kept_is_there, kept_passes, kept_from, none_passes, contains_first}
+use Rattle.stale_model.proofs.Members.{kept_is_there, kept_passes, kept_from, contains_first}
+use Rattle.lbt_epochs.proofs.Filters.{none_passes}
 use Rattle.lbt_epochs.proofs.Parts.{is_other, in_without}
 
 -- ---- the latest

@@ -10,8 +10,8 @@ use Rattle.stale_model.specs.declared.End.TheVariants.{Hard, Soft}
 use Rattle.stale_model.specs.Chains.{without, late_writes, late_reads, is_later, latest, Demand, demand_of, demand, impossible, Chain, fails, followed_by, chain_by, chain, cut, join, round, writes_of}
 use Rattle.stale_model.specs.Zones.{reads_start}
 use Rattle.stale_model.proofs.Sorted.{contains_later}
+use Rattle.stale_model.proofs.Members.{kept_from, empty_has_none, contains_first}
 use Rattle.lbt_epochs.specs.Steps.{FailsAlone, HasLateWrite, HasThreeLateReads, IsStuck}
-use Rattle.lbt_epochs.proofs.Filters.{kept_from, empty_has_none, contains_first}
 use Rattle.lbt_epochs.proofs.Parts.{is_other}
 use Rattle.lbt_epochs.proofs.LatestRanked.{IsRanked, first_is_later, is_other_from, no_later_start, no_later_itself}
 

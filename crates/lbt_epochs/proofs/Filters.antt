@@ -1,36 +1,14 @@
--- What a filter and a map of a list contain, and filters of them.
-use Rattle.std.proofs.Common.{◌≡◌, ◌⊎◌, ℕ, zero, ◌+◌, ◌<◌, ◌≤◌, Bool, true, false, ◌&&◌, cond, List, [], ◌∷◌, map, length, refl, ◌∙◌, ap, inl, inr, arith}
+-- Filters of lists, and of filtered and mapped lists.
+use Rattle.std.proofs.Common.{◌≡◌, ◌⊎◌, ℕ, ◌+◌, ◌<◌, ◌≤◌, Bool, true, false, ◌&&◌, cond, List, [], ◌∷◌, map, length, refl, ap, inl, inr, arith}
 use Rattle.std.specs.Prelude.{Contains}
 use Rattle.std.specs.List.{filter}
-use Rattle.std.proofs.lemmas.List.{length-map, get_or-map}
-use Rattle.stale_model.proofs.Places.{contains_at, place_of}
-use Rattle.model_laws.proofs.Listings.{origin, origin_stands, passes_at, keeps}
 use Rattle.stale_model.proofs.Sorted.{first_or_later, contains_later}
-
--- what a filter keeps is of the list
-pub kept_is_there : {X : Type 0} (passes : X → Bool) (xs : List X) (x : X) → Contains (filter passes xs) x → Contains xs x
-kept_is_there passes xs x c = let (i, at) = place_of (filter passes xs) x c in contains_at xs (origin passes xs i) x (origin_stands passes xs i x at)
-
--- and passes
-pub kept_passes : {X : Type 0} (passes : X → Bool) (xs : List X) (x : X) → Contains (filter passes xs) x → passes x ≡ true
-kept_passes passes xs x c = let (i, at) = place_of (filter passes xs) x c in passes_at passes xs i x at
-
--- what is of the list and passes is kept
-pub kept_from : {X : Type 0} (passes : X → Bool) (xs : List X) (x : X) → Contains xs x → passes x ≡ true → Contains (filter passes xs) x
-kept_from passes xs x c p = let (i, at) = place_of xs x c in keeps passes xs x p i at
+use Rattle.stale_model.proofs.Members.{empty_has_none, contains_first, kept_from}
 
 -- each of a list passes a test that is always met
 pub filter_all : {X : Type 0} (xs : List X) → filter (λ x. true) xs ≡ xs
 filter_all [] = refl
 filter_all {X = X} (x ∷ xs) = ap (λ (l : List X). x ∷ l) (filter_all xs)
-
--- the empty list contains nothing
-pub empty_has_none : {X : Type 0} (x : X) → Contains [] x → ⊥
-empty_has_none x c = let l = c.1 in omega arith
-
--- a list contains its first element
-pub contains_first : {X : Type 0} (x : X) (xs : List X) → Contains (x ∷ xs) x
-contains_first x xs = (zero, omega arith, refl)
 
 -- two tests that agree on the elements keep the same
 pub filter_within : {X : Type 0} (p q : X → Bool) (xs : List X) → ((x : X) → Contains xs x → p x ≡ q x) → filter p xs ≡ filter q xs
@@ -57,18 +35,6 @@ mapped_by false f x xs ys e = e
 pub filter_mapped : {X Y : Type 0} (p : Y → Bool) (f : X → Y) (xs : List X) → filter p (map f xs) ≡ map f (filter (λ x. p (f x)) xs)
 filter_mapped p f [] = refl
 filter_mapped p f (x ∷ xs) = mapped_by (p (f x)) f x (filter (λ x. p (f x)) xs) (filter p (map f xs)) (filter_mapped p f xs)
-
--- what is of the list is mapped
-pub mapped_from : {X Y : Type 0} (f : X → Y) (xs : List X) (x : X) → Contains xs x → Contains (map f xs) (f x)
-mapped_from f xs x (k, l, e) = (k, (let n = length-map xs f in omega arith), get_or-map f xs k x (f x) l ∙ ap f e)
-
--- what a map contains is of the list before
-pub before_mapped : {X Y : Type 0} (f : X → Y) (xs : List X) (y : Y) → Contains (map f xs) y → (x : X) × Contains xs x × (f x ≡ y)
-before_mapped f [] y c = absurd (empty_has_none y c)
-before_mapped f (x ∷ xs) y c = elim (first_or_later (f x) y (map f xs) c) [
-  | inl e ↦ (x, contains_first x xs, e)
-  | inr d ↦ let (z, there, e) = before_mapped f xs y d in (z, contains_later x z xs there, e)
-]
 
 shorter_by : {X : Type 0} (b : Bool) (x : X) (ys : List X) (n : ℕ) → length ys ≤ n → length (cond b (x ∷ ys) ys) ≤ n + 1
 shorter_by true x ys n l = omega arith

@@ -12,8 +12,9 @@ use Rattle.stale_model.specs.declared.Cluster.{Cluster}
 use Rattle.stale_model.specs.Chains.{without, late_reads, is_later, latest, demand_of, demand}
 use Rattle.stale_model.specs.Zones.{reads_start}
 use Rattle.stale_model.proofs.Sorted.{first_or_later, contains_later}
+use Rattle.stale_model.proofs.Members.{kept_is_there, kept_passes, kept_from, empty_has_none, contains_first}
 use Rattle.lbt_epochs.specs.Steps.{if_late}
-use Rattle.lbt_epochs.proofs.Filters.{kept_is_there, kept_passes, kept_from, empty_has_none, contains_first, filter_within, filter_twice}
+use Rattle.lbt_epochs.proofs.Filters.{filter_within, filter_twice}
 use Rattle.lbt_epochs.proofs.Parts.{is_other}
 
 one_way_nat : (s t w v : ℕ) → (ltb t s || (eqb s t && ltb w v)) ≡ true → (ltb s t || (eqb t s && ltb v w)) ≡ false

@@ -12,9 +12,9 @@ use Rattle.stale_model.specs.declared.Cluster.{Cluster}
 use Rattle.stale_model.specs.Chains.{candidate_order, round}
 use Rattle.stale_model.specs.Zones.{reads_start}
 use Rattle.stale_model.proofs.Places.{contains_at}
+use Rattle.stale_model.proofs.Members.{mapped_from, before_mapped}
 use Rattle.lbt_epochs.specs.Lists.{Lists, left, cluster_at}
 use Rattle.lbt_epochs.specs.Steps.{clusters_left, if_late, IsReady, AllFailAlone, HasLateWrite, HasThreeLateReads, IsStuck}
-use Rattle.lbt_epochs.proofs.Filters.{mapped_from, before_mapped}
 use Rattle.lbt_epochs.proofs.TotalOrders.{candidate_order-total}
 use Rattle.lbt_epochs.proofs.LeftPlaces.{is_left, writes_ranked, reads_ranked}
 use Rattle.lbt_epochs.proofs.FailAlone.{late_write_fails, third_is_late, stuck_alone}

@@ -22,9 +22,10 @@ use Rattle.stale_model.specs.Orders.{StandsAt}
 use Rattle.stale_model.specs.Clusters.{writes_of, WriteRecordsDiffer}
 use Rattle.stale_model.proofs.Places.{contains_at, write_stands}
 use Rattle.stale_model.proofs.Sorted.{flips}
+use Rattle.stale_model.proofs.Members.{kept_is_there, kept_passes, kept_from, mapped_from, before_mapped}
 use Rattle.lbt_epochs.specs.Lists.{Lists, left, cluster_at, no_cluster, ArePlacesBy}
 use Rattle.lbt_epochs.specs.Steps.{clusters_left, IsReady}
-use Rattle.lbt_epochs.proofs.Filters.{kept_is_there, kept_passes, kept_from, mapped_from, before_mapped, filter_no_longer}
+use Rattle.lbt_epochs.proofs.Filters.{filter_no_longer}
 use Rattle.lbt_epochs.proofs.LatestRanked.{IsRanked}
 
 -- ---- the places of clusters

@@ -8,7 +8,7 @@ use Rattle.stale_model.specs.declared.Cluster.{Cluster}
 use Rattle.stale_model.specs.Chains.{without, Demand, demand, nothing, one, impossible, Chain, ends, fails, cut, chain_by, followed_by, chain}
 use Rattle.stale_model.specs.Clusters.{writes_of, WriteRecordsDiffer}
 use Rattle.stale_model.proofs.Sorted.{first_or_later, no_repeats_tail, permuted_no_repeats}
-use Rattle.lbt_epochs.proofs.Filters.{kept_is_there}
+use Rattle.stale_model.proofs.Members.{kept_is_there}
 use Rattle.lbt_epochs.proofs.Parts.{is_other}
 use Rattle.lbt_epochs.proofs.Demands.{MayStandBefore, AsksOne, asks_nothing, asks_one}
 use Rattle.lbt_epochs.proofs.ListedParts.{one_and_rest, without_in_turn, without_none}

@@ -14,7 +14,7 @@ use Rattle.stale_model.specs.Zones.{reads_start}
 use Rattle.lbt_epochs.specs.TwoLaws.{ListingsAreAnswered}
 use Rattle.stale_model.proofs.Places.{contains_at}
 use Rattle.stale_model.proofs.Sorted.{contains_later, permuted_no_repeats, no_repeats_tail, no_repeats_from_map}
-use Rattle.lbt_epochs.proofs.Filters.{kept_is_there}
+use Rattle.stale_model.proofs.Members.{kept_is_there}
 use Rattle.lbt_epochs.proofs.Parts.{is_other}
 use Rattle.lbt_epochs.proofs.Removed.{Ends, removed_by}
 use Rattle.lbt_epochs.proofs.ListedParts.{one_and_rest, without_in_turn}

@@ -9,8 +9,9 @@ use Rattle.std.proofs.lemmas.List.{get_or-map, length-map}
 use Rattle.std.proofs.lemmas.List.Elements.{Contains-get_or}
 use Rattle.std.proofs.lemmas.List.Sorted.{Contains-permutation, IsPermutation-sym, IsPermutation-map}
 use Rattle.stale_model.specs.declared.Cluster.{Cluster}
+use Rattle.stale_model.proofs.Members.{kept_is_there, before_mapped}
 use Rattle.lbt_epochs.specs.Lists.{cluster_at, numbered, ArePlacesBy}
-use Rattle.lbt_epochs.proofs.Filters.{kept_is_there, filter_mapped, before_mapped}
+use Rattle.lbt_epochs.proofs.Filters.{filter_mapped}
 
 module _ (clusters : List Cluster) where
   abbrev behind_place : ℕ → ℕ × Cluster

@@ -8,8 +8,8 @@ use Rattle.stale_model.specs.Orders.{StandsAt}
 use Rattle.stale_model.specs.Clusters.{WriteRecordsDiffer}
 use Rattle.stale_model.specs.Chains.{without}
 use Rattle.stale_model.proofs.Places.{write_stands}
+use Rattle.stale_model.proofs.Members.{kept_is_there, kept_passes}
 use Rattle.model_laws.proofs.Listings.{origin, origin_rises, origin_stands}
-use Rattle.lbt_epochs.proofs.Filters.{kept_is_there, kept_passes}
 
 -- none of the clusters has the write of c
 abbrev pub Apart : Cluster → List Cluster → Type 0

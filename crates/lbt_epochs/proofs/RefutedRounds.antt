@@ -11,7 +11,7 @@ use Rattle.stale_model.specs.declared.Two.TheVariants.{Yes, No}
 use Rattle.stale_model.specs.Orders.{StandsAt}
 use Rattle.stale_model.specs.Clusters.{writes_of}
 use Rattle.stale_model.specs.Chains.{without, Chain, ends, fails, cut, chain, Round, removes, repeats, refutes, join, round, or_later, rounds, epoch_by, epochs}
-use Rattle.lbt_epochs.proofs.Filters.{kept_is_there}
+use Rattle.stale_model.proofs.Members.{kept_is_there}
 use Rattle.lbt_epochs.proofs.Parts.{IsPart, WritesStandOnce, part_differs, in_without}
 use Rattle.lbt_epochs.proofs.ChainForced.{IsForcedChain, chain_is_forced}
 

@@ -1,21 +1,12 @@
--- What is held after one more entry.
-use Rattle.std.proofs.Common.{◌≡◌, ℕ, replicate, ◌<◌, ◌≤◌, true, false, cond, ◌&&◌, List, [], ◌∷◌, ◌++◌, length, refl, sym, ◌∙◌, ap, inl, inr, get_or, arith, get_or-set_same, get_or-set_other, eq-eqb}
-use Rattle.std.specs.Prelude.{◌==◌, slice_set}
+-- What a replica holds of each key, after one more entry.
+use Rattle.std.proofs.Common.{◌≡◌, ℕ, replicate, ◌<◌, ◌≤◌, true, false, List, [], ◌∷◌, length, refl, sym, ◌∙◌, ap, inl, inr, get_or, arith, get_or-set_same, get_or-set_other, eq-eqb}
+use Rattle.std.specs.Prelude.{slice_set}
 use Rattle.std.proofs.lemmas.Bool.{cases_eq, ne_eqb, lt-ltb, le-ltb}
 use Rattle.std.proofs.lemmas.List.{get_or_default, get_or-replicate}
 use Rattle.stale_model.specs.declared.store.JournalEntry.{JournalEntry}
-use Rattle.stale_model.specs.Journals.{Pair, nothing, changes, pair_of, newer, held_after, held}
+use Rattle.stale_model.specs.Journals.{Pair, changes, pair_of, held_after, held}
 use Rattle.replica_node.specs.declared.HeldPair.{HeldPair}
 use Rattle.replica_node.specs.Pairs.{as_pair}
-
--- what is held after one more entry
-held_after-push : (pair : Pair) (key : ℕ) (js : List JournalEntry) (j : JournalEntry) → held_after pair key (js ++ j ∷ []) ≡ held_after (held_after pair key js) key (j ∷ [])
-held_after-push pair key [] j = refl
-held_after-push pair key (i ∷ js) j = held_after-push (cond ((i.request.key == key) && changes i.request.ask) (newer pair (pair_of i)) pair) key js j
-
--- where this is held after the entries, and that after one more, it is held after them all
-pub held_grows : (key : ℕ) (js : List JournalEntry) (j : JournalEntry) (before after : Pair) → before ≡ held key js → after ≡ held_after before key (j ∷ []) → after ≡ held key (js ++ j ∷ [])
-held_grows key js j before after is next = next ∙ (ap (λ (p : Pair). held_after p key (j ∷ [])) is ∙ sym (held_after-push nothing key js j))
 
 -- an entry on another key
 other_key : (pair : Pair) (key : ℕ) (j : JournalEntry) → (j.request.key ≡ key → ⊥) → pair ≡ held_after pair key (j ∷ [])

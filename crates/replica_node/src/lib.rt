@@ -83,6 +83,7 @@ impl Replica {
         requires key { request.key < self.old.keys }
         requires started { request.start < seat.old.seen }
         requires later { All (λ j. j.reply.serve < seat.old.seen) self.old.journal }
+        ensures ticket { seat.old.seen ≤ result.serve }
         ensures served { IsServed self.old.number self.old.journal
             (record { request = request; reply = result }) }
         ensures replica { self.new ≡ record self.old {
@@ -93,6 +94,7 @@ impl Replica {
           left = seat.old.left - 1;
           seen = result.serve + 1;
         } }
+        ensures later { All (λ j. j.reply.serve < seat.new.seen) self.new.journal }
     {
         let serve = clock.draw(seat);
         let pair = answer(&request, self.held[request.key as usize]);

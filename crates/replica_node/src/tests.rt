@@ -1,5 +1,5 @@
 //! What a replica answers to three requests, worked by hand.
-ghost use Rattle.std.specs.Prelude.{◌≡◌, ◌+◌, ◌<◌, ◌≤◌, length, IfOk};
+ghost use Rattle.std.specs.Prelude.{◌≡◌, ◌+◌, ◌<◌, ◌≤◌};
 
 use crate::{Ask, Memory, Replica, Reply, Request};
 use std::alloc::Global;
@@ -61,14 +61,14 @@ fn draw_six(clock: &Clock, mut seat: Seat) -> Seat
 }
 
 // Serves three requests after six tickets, at a replica of as many keys and three places. The serve
-// ticket, the stamp and the value of each reply, and how many entries the journal has.
+// ticket, the stamp and the value of each reply.
 fn three_served(
     alloc: Global,
     keys: u32,
     first: Request,
     second: Request,
     third: Request,
-) -> Result<([(u64, u64, u32); 3], usize), Memory>
+) -> Result<[(u64, u64, u32); 3], Memory>
     requires keys { (first.key < keys) × (second.key < keys) × (third.key < keys) }
     requires starts { (first.start ≤ 6) × (second.start ≤ 6) × (third.start ≤ 6) }
 {
@@ -78,9 +78,8 @@ fn three_served(
     let first = replica.serve(&clock, &mut seat, first);
     let second = replica.serve(&clock, &mut seat, second);
     let third = replica.serve(&clock, &mut seat, third);
-    let entries = replica.journal().len();
     let replies = [pair(&first), pair(&second), pair(&third)];
-    Ok((replies, entries))
+    Ok(replies)
 }
 
 // The serve ticket, the stamp and the value of a reply.
@@ -91,18 +90,17 @@ fn pair(reply: &Reply) -> (u64, u64, u32) {
 #[test]
 fn the_greater_stamp_stays_though_it_came_first(rt: HostRuntime) -> Result<(), Fail> {
     let served = three_served(rt.alloc(), 1, write(5, 2), write(3, 1), read(0, 6));
-    let Ok((replies, entries)) = served else {
+    let Ok(replies) = served else {
         panic!(rt; "memory")
     };
     assert_eq!(rt; replies, [(7, 5, 2), (8, 3, 1), (9, 5, 2)]);
-    assert_eq!(rt; entries, 3);
     Ok(())
 }
 
 #[test]
 fn a_repair_with_a_lesser_stamp_changes_nothing(rt: HostRuntime) -> Result<(), Fail> {
     let served = three_served(rt.alloc(), 1, write(5, 2), repair(6, 3, 1), read(0, 4));
-    let Ok((replies, _entries)) = served else {
+    let Ok(replies) = served else {
         panic!(rt; "memory")
     };
     assert_eq!(rt; replies, [(7, 5, 2), (8, 3, 1), (9, 5, 2)]);
@@ -112,7 +110,7 @@ fn a_repair_with_a_lesser_stamp_changes_nothing(rt: HostRuntime) -> Result<(), F
 #[test]
 fn a_key_that_nobody_wrote_has_the_initial_value(rt: HostRuntime) -> Result<(), Fail> {
     let served = three_served(rt.alloc(), 2, write(5, 2), read(0, 6), read(1, 6));
-    let Ok((replies, _entries)) = served else {
+    let Ok(replies) = served else {
         panic!(rt; "memory")
     };
     assert_eq!(rt; replies, [(7, 5, 2), (8, 5, 2), (9, 0, 0)]);
@@ -122,9 +120,25 @@ fn a_key_that_nobody_wrote_has_the_initial_value(rt: HostRuntime) -> Result<(), 
 #[test]
 fn of_two_writes_with_one_stamp_the_first_stays(rt: HostRuntime) -> Result<(), Fail> {
     let served = three_served(rt.alloc(), 1, write(5, 2), write(5, 1), read(0, 6));
-    let Ok((replies, _entries)) = served else {
+    let Ok(replies) = served else {
         panic!(rt; "memory")
     };
     assert_eq!(rt; replies, [(7, 5, 2), (8, 5, 1), (9, 5, 2)]);
+    Ok(())
+}
+
+#[test]
+fn what_was_served_is_in_the_journal(rt: HostRuntime) -> Result<(), Fail> {
+    let Ok((clock, mut seat)) = Clock::new(rt.alloc(), 1) else {
+        panic!(rt; "memory")
+    };
+    let Ok(mut replica) = Replica::prepare(rt.alloc(), 4, 1, 1) else {
+        panic!(rt; "memory")
+    };
+    let reply = replica.serve(&clock, &mut seat, write(0, 3));
+    assert_eq!(rt; reply.replica, 4);
+    assert_eq!(rt; replica.journal().len(), 1);
+    let journal = replica.into_journal();
+    assert_eq!(rt; journal.as_slice().len(), 1);
     Ok(())
 }

@@ -9,3 +9,4 @@ pub mod LeastRecords
 pub mod ZoneOrders
 pub mod Returned
 pub mod ClustersOne
+pub mod Growing

@@ -2,8 +2,8 @@ use Rattle.std.proofs.Common.{List, length, sym, ◌∙◌, ap, subst, arith}
 use Rattle.std.proofs.lemmas.List.{length-replicate}
 use Rattle.stale_model.specs.declared.store.JournalEntry.{JournalEntry}
 use Rattle.stale_model.specs.Journals.{held, IsJournal}
+use Rattle.stale_model.proofs.Growing.{empty_journal}
 use Rattle.replica_node.specs.declared.HeldPair.{HeldPair}
-use Rattle.replica_node.proofs.Growing.{empty_journal}
 use Rattle.replica_node.proofs.Holding.{nothing_held}
 use Rattle.replica_node.proofs.Replica.prepare.Goals as goal
 

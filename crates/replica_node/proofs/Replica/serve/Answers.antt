@@ -3,11 +3,10 @@ use Rattle.std.specs.Prelude.{All}
 use Rattle.std.proofs.lemmas.List.{with_items_is}
 use Rattle.stale_model.specs.declared.store.JournalEntry.{JournalEntry}
 use Rattle.stale_model.specs.Journals.{held, IsServed, IsJournal}
+use Rattle.stale_model.proofs.Growing.{held_grows, journal_grows}
 use Rattle.replica_node.specs.declared.HeldPair.{HeldPair}
 use Rattle.replica_node.specs.Replicas.{ReplicaView}
 use Rattle.replica_node.specs.Pairs.{as_pair}
-use Rattle.replica_node.proofs.Holding.{held_grows}
-use Rattle.replica_node.proofs.Growing.{journal_grows}
 use Rattle.replica_node.proofs.Replica.serve.Goals as goal
 
 pub invariant_of-self : goal.invariant_of-self
@@ -26,11 +25,11 @@ invariant_of-self c =
     let len = c.deref_mut.ensures.len in
     let ticket = c.draw-serve.ensures.ticket in
     let started = c.requires.started in
-    let same_key = subst (λ (r : ReplicaView). request.key < r.keys) (sym c.self.view_is) c.requires.key in
+    let key_within = subst (λ (r : ReplicaView). request.key < r.keys) (sym c.self.view_is) c.requires.key in
     let place = subst (λ (r : ReplicaView). length r.journal < r.places) (sym c.self.view_is) c.requires.place in
     let later = subst (λ (r : ReplicaView). All (λ (j : JournalEntry). j.reply.serve < c.args.seat.now.seen) r.journal) (sym c.self.view_is) c.requires.later in
     let here = c.index.result.now in
-    let held_here : held request.key js ≡ as_pair here = sym (ap as_pair c.index.ensures ∙ c.self.invariant.holds request.key here same_key) in
+    let held_here : held request.key js ≡ as_pair here = sym (ap as_pair c.index.ensures ∙ c.self.invariant.holds request.key here key_within) in
     let served : IsServed number js entry = record {
       rises = λ k past within. let before = later k past within in omega arith;
       after_start = omega arith;
