@@ -42,6 +42,10 @@ freshest_there (t ∷ ts) some = elim (freshest_from_there t ts) [
   | inr later ↦ contains_later t (freshest_from t ts) ts later
 ]
 
+-- the pair of a reply that a call took
+abbrev taken_pair : Took → Pair
+taken_pair t = record { stamp = t.stamp; value = t.value }
+
 -- a pair that an entry of the journal has for the key
 record IsPairOf (key : ℕ) (js : List JournalEntry) (p : Pair) : Type 0 where
   entry : JournalEntry
@@ -155,16 +159,16 @@ module _ (settings : Settings) (plan : Plan) (entries : List Entry) (journals : 
   KnownBelow n = (replica : ℕ) (j : JournalEntry) → Contains (journal_of journals replica) j → j.reply.serve < n → IsKnownEntry j
 
   -- a reply that a call took
-  taken_known : (n : ℕ) (e : Entry) (t : Took) → KnownBelow n → Contains entries e → Contains (taken_by e) t → t.serve < n → IsKnown e.key (record { stamp = t.stamp; value = t.value }) t.serve
+  taken_known : (n : ℕ) (e : Entry) (t : Took) → KnownBelow n → Contains entries e → Contains (taken_by e) t → t.serve < n → IsKnown e.key (taken_pair t) t.serve
   taken_known n e t below c d low =
       let r = (taken e c).each t d in
       let j = r.entry in
       let serve : j.reply.serve ≡ t.serve = sym (ap (λ (z : Took). z.serve) r.same) in
       let key : e.key ≡ j.request.key = sym (ap (λ (q : Request). q.key) (request_is e t c d)) in
-      let pair : record { stamp = t.stamp; value = t.value } ≡ pair_of j = ap (λ (z : Took). let p : Pair = record { stamp = z.stamp; value = z.value } in p) r.same in
+      let pair : taken_pair t ≡ pair_of j = ap taken_pair r.same in
       let before = below t.replica j r.there (omega arith) in
-      known_later e.key (record { stamp = t.stamp; value = t.value }) j.reply.serve t.serve (omega arith)
-      (known_key e.key j.request.key (record { stamp = t.stamp; value = t.value }) j.reply.serve key (known_same j.request.key (record { stamp = t.stamp; value = t.value }) (pair_of j) j.reply.serve pair before))
+      known_later e.key (taken_pair t) j.reply.serve t.serve (omega arith)
+      (known_key e.key j.request.key (taken_pair t) j.reply.serve key (known_same j.request.key (taken_pair t) (pair_of j) j.reply.serve pair before))
 
   freshest_taken : (e : Entry) → Contains entries e → Contains (taken_by e) (freshest (taken_by e))
   freshest_taken e c =
@@ -174,12 +178,12 @@ module _ (settings : Settings) (plan : Plan) (entries : List Entry) (journals : 
       freshest_there (taken_by e) (omega arith)
 
   -- the freshest reply that a call took
-  freshest_known : (n : ℕ) (e : Entry) → KnownBelow n → Contains entries e → e.finish ≤ n → IsKnown e.key (record { stamp = (freshest (taken_by e)).stamp; value = (freshest (taken_by e)).value }) e.finish
+  freshest_known : (n : ℕ) (e : Entry) → KnownBelow n → Contains entries e → e.finish ≤ n → IsKnown e.key (taken_pair (freshest (taken_by e))) e.finish
   freshest_known n e below c low =
       let t = freshest (taken_by e) in
       let d = freshest_taken e c in
       let early = ((taken e c).each t d).before_finish in
-      known_later e.key (record { stamp = t.stamp; value = t.value }) t.serve e.finish (omega arith) (taken_known n e t below c d (omega arith))
+      known_later e.key (taken_pair t) t.serve e.finish (omega arith) (taken_known n e t below c d (omega arith))
 
   module _ (n replica : ℕ) (j : JournalEntry) (below : KnownBelow n) (c : Contains (journal_of journals replica) j) (low : j.reply.serve ≤ n) where
     -- a read's reply has what was held: nothing, or the pair of an earlier entry
@@ -220,10 +224,10 @@ module _ (settings : Settings) (plan : Plan) (entries : List Entry) (journals : 
           let t = freshest (taken_by e) in
           let start : j.request.start ≡ e.finish = ap (λ (q : Request). q.start) repair in
           let (stamps, values) = same_repair t.stamp t.value stamp value (sym (ap (λ (q : Request). q.ask) repair) ∙ ask) in
-          let same : pair_of j ≡ record { stamp = t.stamp; value = t.value } = pair ∙ (λ i. record { stamp = sym stamps i; value = sym values i }) in
+          let same : pair_of j ≡ taken_pair t = pair ∙ (λ i. record { stamp = sym stamps i; value = sym values i }) in
           known_key j.request.key e.key (pair_of j) j.reply.serve (ap (λ (q : Request). q.key) repair)
-          (known_same e.key (pair_of j) (record { stamp = t.stamp; value = t.value }) j.reply.serve same
-          (known_later e.key (record { stamp = t.stamp; value = t.value }) e.finish j.reply.serve (omega arith) (freshest_known n e below s.there (omega arith))))
+          (known_same e.key (pair_of j) (taken_pair t) j.reply.serve same
+          (known_later e.key (taken_pair t) e.finish j.reply.serve (omega arith) (freshest_known n e below s.there (omega arith))))
     ]
 
     by_ask : (ask : Ask) (s : IsEntryAfter replica (journal_of journals replica) j) → j.request.ask ≡ ask → pair_of j ≡ answer_to s.earlier j.request ask → IsKnownEntry j

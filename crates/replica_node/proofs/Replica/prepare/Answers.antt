@@ -13,7 +13,11 @@ invariant_of-result c =
     let none = c.in-Ok.ensures.len in
     let nothing : HeldPair = record { stamp = 0; value = 0 } in
     record {
-      holds = λ key past within. nothing_held c.args.keys c.in_ok-held.held.items key past c.in_ok-held.ensures (let long = ap (λ (l : List HeldPair). length l) c.in_ok-held.ensures in let ok = c.in_ok-held.held.ok in let many = length-replicate c.args.keys nothing in omega arith) ∙ ap (held key) (sym empty);
+      holds = λ key past within.
+          let long = ap (λ (l : List HeldPair). length l) c.in_ok-held.ensures in
+          let many = length-replicate c.args.keys nothing in
+          let ok = c.in_ok-held.held.ok in
+          nothing_held c.args.keys c.in_ok-held.held.items key past c.in_ok-held.ensures (omega arith) ∙ ap (held key) (sym empty);
       journal = subst (λ (js : List JournalEntry). IsJournal c.args.number js) (sym empty) (empty_journal c.args.number);
       within = omega arith;
       room = c.in-Ok.ensures.capacity;
