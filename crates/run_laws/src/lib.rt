@@ -1,6 +1,8 @@
 //! Laws of the definitions of recorded runs, as theorems: functions whose contracts are all that they are for.
 #![tactic(auto)]
 
+pub mod examples;
+
 ghost use Rattle.run_laws.specs.Laws.{TookStandInJournal, ReadsReturnEarlierWrites, ReplicasDropNone};
 
 /// A reply that a client took of a replica, with the number of one of its calls, stands in the journal of the replica as
