@@ -1,6 +1,6 @@
 -- Runs that are written out: what holds place by place, by recursion on the lists, makes them recorded runs.
 use Rattle.std.proofs.Common.{◌≡◌, ℕ, zero, suc, ◌+◌, ◌-◌, ◌<◌, false, List, [], ◌∷◌, length, map, take, drop, sym, inl, inr, subst, eqb, arith}
-use Rattle.std.specs.Prelude.{◌==◌, Some, IfSome, flat_map, slice_get, slice_index, slice_index_or}
+use Rattle.std.specs.Prelude.{◌==◌, Contains, Some, IfSome, flat_map, slice_get, slice_index, slice_index_or}
 use Rattle.std.specs.List.{AllByRecursion, IsDistinct, position_or_len}
 use Rattle.std.proofs.lemmas.Bool.{cases_order, eqb-true}
 use Rattle.std.proofs.lemmas.Option.{same_Some, get_or_from_slice_get}
@@ -20,6 +20,10 @@ use Rattle.stale_model.proofs.Places.{contains_at}
 use Rattle.stale_model.proofs.Sorted.{no_repeats_from_distinct}
 use Rattle.stale_model.proofs.Members.{kept_is_there, kept_passes}
 use Rattle.run_laws.specs.Examples.{Run, IsRecorded, planned, asked, answered}
+
+-- a fact of each element holds of what the list contains
+by_element : {X : Type 0} (P : X → Type 0) (xs : List X) → AllByRecursion P xs → (x : X) → Contains xs x → P x
+by_element P xs h x c = All-contains P xs x (All-from_recursion P xs h) c
 
 -- a fact of each place and its element
 abbrev pub AtEach : {X : Type 0} → (ℕ → X → Type 0) → List X → Type 0
@@ -50,15 +54,15 @@ below (suc n) P h k low = elim (cases_order k n) [
 ]
 
 -- the place of what was served at this ticket
-abbrev pub served_at : List JournalEntry → ℕ → ℕ
-served_at js serve = position_or_len (λ j. j.reply.serve == serve) js
+abbrev pub place_at : List JournalEntry → ℕ → ℕ
+place_at js serve = position_or_len (λ j. j.reply.serve == serve) js
 
 abbrev pub entry_at : List JournalEntry → ℕ → JournalEntry
-entry_at js serve = slice_index_or js (served_at js serve) (answered (asked 0 0 0 AskRead) 0 0 0 0)
+entry_at js serve = slice_index_or js (place_at js serve) (answered (asked 0 0 0 AskRead) 0 0 0 0)
 
 -- a reply stands in the journal of its replica, at its ticket
 pub record StandsAtItsTicket (journals : List (List JournalEntry)) (e : Entry) (t : Took) : Type 0 where
-  pub within : served_at (journal_of journals t.replica) t.serve < length (journal_of journals t.replica)
+  pub within : place_at (journal_of journals t.replica) t.serve < length (journal_of journals t.replica)
   pub plain : is_repair (entry_at (journal_of journals t.replica) t.serve).request.ask ≡ false
   pub client : (entry_at (journal_of journals t.replica) t.serve).reply.client ≡ e.client
   pub seq : (entry_at (journal_of journals t.replica) t.serve).reply.seq ≡ e.seq
@@ -69,7 +73,7 @@ pub record StandsAtItsTicket (journals : List (List JournalEntry)) (e : Entry) (
 stands : (journals : List (List JournalEntry)) (e : Entry) (t : Took) → StandsAtItsTicket journals e t → IsReplyTo journals e t
 stands journals e t h =
     let js = journal_of journals t.replica in
-    let place = served_at js t.serve in
+    let place = place_at js t.serve in
     record {
       entry = entry_at js t.serve;
       there = Contains-get_or js place (answered (asked 0 0 0 AskRead) 0 0 0 0) h.within;
@@ -93,7 +97,7 @@ takes : (settings : Settings) (journals : List (List JournalEntry)) (e : Entry) 
 takes settings journals e h = record {
   count = h.count;
   many = h.many;
-  each = λ t c. stands journals e t (All-contains (StandsAtItsTicket journals e) (taken_by e) t (All-from_recursion (StandsAtItsTicket journals e) (taken_by e) h.each) c);
+  each = λ t c. stands journals e t (by_element (StandsAtItsTicket journals e) (taken_by e) h.each t c);
   apart = no_repeats_from_distinct (map (λ t. t.replica) (taken_by e)) h.apart;
   others = All-from_recursion (λ t. t ≡ no_took) (drop e.took_count e.took) h.others;
 }
@@ -124,13 +128,17 @@ Planned r client k e = IsAsPlanned (k + 1) (slice_index_or (calls_of r.plan clie
 abbrev pub InTurn : Run → ℕ → ℕ → Entry → Type 0
 InTurn r client k a = IfSome (slice_get (entries_of client r.entries) (k + 1)) (λ b. a.finish < b.start)
 
+-- a number is less than the next
+abbrev pub Rises : List ℕ → ℕ → Type 0
+Rises xs k = slice_index xs k < slice_index xs (k + 1)
+
 -- the parts of a recorded run, place by place
 pub record HoldsThroughout (r : Run) : Type 0 where
   pub limits : AreSettings r.settings
   pub clients : AllByRecursion (λ e. e.client < r.settings.clients) r.entries
   pub as_many : Below r.settings.clients (λ client. length (entries_of client r.entries) ≡ length (calls_of r.plan client))
   pub each : Below r.settings.clients (λ client. AtEach (Planned r client) (entries_of client r.entries))
-  pub rising : Below (length r.entries - 1) (λ k. slice_index (map (λ e. e.start) r.entries) k < slice_index (map (λ e. e.start) r.entries) (k + 1))
+  pub rising : Below (length r.entries - 1) (Rises (map (λ e. e.start) r.entries))
   pub ordered : AllByRecursion (λ e. e.start < e.finish) r.entries
   pub in_turn : Below r.settings.clients (λ client. AtEach (InTurn r client) (entries_of client r.entries))
   pub once : IsDistinct eqb (tickets_of r.entries r.journals)
@@ -158,14 +166,15 @@ module _ (r : Run) (h : HoldsThroughout r) where
     as_many = λ client low. below r.settings.clients (λ c. length (entries_of c r.entries) ≡ length (calls_of r.plan c)) h.as_many client low;
     each = λ client k e call at plan.
         let each = below r.settings.clients (λ c. AtEach (Planned r c) (entries_of c r.entries)) h.each client (there_is client k e at) in
-        subst (λ p. IsAsPlanned (k + 1) p e) (get_or_from_slice_get (calls_of r.plan client) k call (planned Read 0) plan) (at_each (Planned r client) (entries_of client r.entries) each k e at);
+        let same = get_or_from_slice_get (calls_of r.plan client) k call (planned Read 0) plan in
+        subst (λ p. IsAsPlanned (k + 1) p e) same (at_each (Planned r client) (entries_of client r.entries) each k e at);
   }
 
   are_timed : AreTimed r.entries r.journals
   are_timed = record {
     rising = λ k low.
         let many = length-map r.entries (λ (e : Entry). e.start) in
-        below (length r.entries - 1) (λ k. slice_index (map (λ e. e.start) r.entries) k < slice_index (map (λ e. e.start) r.entries) (k + 1)) h.rising k (omega arith);
+        below (length r.entries - 1) (Rises (map (λ e. e.start) r.entries)) h.rising k (omega arith);
     ordered = All-from_recursion (λ e. e.start < e.finish) r.entries h.ordered;
     one_by_one = λ client k a b at next.
         let each = below r.settings.clients (λ c. AtEach (InTurn r c) (entries_of c r.entries)) h.in_turn client (there_is client k a at) in
@@ -187,7 +196,8 @@ module _ (r : Run) (h : HoldsThroughout r) where
         All-from_recursion (λ j. j.request.client < r.settings.clients) (journal_of r.journals replica) each;
     requests = λ replica client low few.
         let Sent = λ (n c : ℕ). requests_of (served_for c (journal_of r.journals n)) ≡ flat_map (sent_to n) (entries_of c r.entries) in
-        below r.settings.clients (Sent replica) (below r.settings.replicas (λ n. Below r.settings.clients (Sent n)) h.requests replica low) client few;
+        let here = below r.settings.replicas (λ n. Below r.settings.clients (Sent n)) h.requests replica low in
+        below r.settings.clients (Sent replica) here client few;
   }
 
   pub recorded : IsRecorded r

@@ -116,6 +116,17 @@ stamp_not_the_start = record two_writes {
   journals = (first_served ∷ answered (asked 0 2 4 (AskWrite 2)) 0 5 3 2 ∷ []) ∷ [];
 }
 
+-- the second write starts before the first finishes
+abbrev pub calls_overlap : Run
+calls_overlap = record two_writes { entries = call 0 1 Write 1 1 7 (taken 0 2 1 1 ∷ []) ∷ second_write ∷ [] }
+
+-- the reply to the second write is served after the call finished
+abbrev pub served_too_late : Run
+served_too_late = record two_writes {
+  entries = first_write ∷ call 0 2 Write 2 4 5 (taken 0 6 4 2 ∷ []) ∷ [];
+  journals = (first_served ∷ answered (asked 0 2 4 (AskWrite 2)) 0 6 4 2 ∷ []) ∷ [];
+}
+
 -- a write of client 0, which takes the reply of replica 0 alone
 abbrev pub lone_write : Entry
 lone_write = call 0 1 Write 1 1 4 (taken 0 3 1 1 ∷ [])
@@ -165,4 +176,15 @@ repair_not_sent = record repaired_read { journals = fresh_journal ∷ (old_read_
 abbrev pub repair_to_both : Run
 repair_to_both = record repaired_read {
   journals = (fresh_journal ++ repair_served 0 10 ∷ []) ∷ (old_read_served ∷ repair_served 1 8 ∷ late_write_served ∷ []) ∷ [];
+}
+
+-- the entries stand by falling start
+abbrev pub falling_starts : Run
+falling_starts = record repaired_read { entries = late_read ∷ lone_write ∷ [] }
+
+-- the read takes the reply of replica 0 twice, so that none is older and no repair goes out
+abbrev pub one_reply_twice : Run
+one_reply_twice = record repaired_read {
+  entries = lone_write ∷ call 1 1 Read 1 2 7 (taken 0 5 1 1 ∷ taken 0 5 1 1 ∷ []) ∷ [];
+  journals = fresh_journal ∷ (old_read_served ∷ late_write_served ∷ []) ∷ [];
 }

@@ -1,13 +1,13 @@
-//! Runs worked by hand: two that are recorded runs, and changes of them that are none, each by the part that refuses it.
+//! Runs worked by hand: two that are recorded runs, and changes of them that are none.
 
 ghost use Rattle.std.specs.Prelude.{◌≡◌, [], ◌∷◌};
 ghost use Rattle.stale_model.specs.declared.store.Ask.TheVariants.{Write as AskWrite, Repair};
 ghost use Rattle.stale_model.specs.Journals.{nothing, held};
 ghost use Rattle.stale_model.specs.RecordedRuns.{AreTimed, AreTaken};
-ghost use Rattle.run_laws.specs.Examples.{IsRecorded, IsNotRecorded, asked, asked_of, answered, second_write, two_writes, call_not_made, finish_is_the_serve, reply_in_no_journal, stamp_not_as_sent, stamp_not_the_start, repaired_read, ticket_twice, older_value, repair_not_sent, repair_to_both};
+ghost use Rattle.run_laws.specs.Examples.{IsRecorded, IsNotRecorded, asked, asked_of, answered, second_write, two_writes, call_not_made, finish_is_the_serve, reply_in_no_journal, stamp_not_as_sent, stamp_not_the_start, calls_overlap, served_too_late, repaired_read, ticket_twice, older_value, repair_not_sent, repair_to_both, falling_starts, one_reply_twice};
 
-/// Two writes of one client to one replica. The stamp of a write is its start, and not the ticket at which it was served
-/// or finished.
+/// Two writes of one client to one replica. The stamp of a write is its start, and not the ticket at which it was
+/// served or finished.
 pub fn two_writes_are_recorded()
     ensures { IsRecorded two_writes }
 {}
@@ -19,8 +19,8 @@ pub fn a_repaired_read_is_recorded()
     ensures { IsRecorded repaired_read }
 {}
 
-/// A planned call has no entry, and no replica served it: a run in which a client stopped early is none, though all that
-/// it has fits together.
+/// A planned call has no entry, and no replica served it: a run in which a client stopped early is none, though all
+/// that it has fits together.
 pub fn planned_call_that_was_not_made()
     ensures { IsNotRecorded call_not_made }
 {}
@@ -32,10 +32,20 @@ pub fn finish_at_its_own_serve()
     ensures none { IsNotRecorded finish_is_the_serve }
 {}
 
-/// A write finishes at the ticket at which a replica serves another client's repair: no ticket stands twice in the whole
-/// run, and not only among the calls, or among those of one client.
+/// A write finishes at the ticket at which a replica serves another client's repair: no ticket stands twice in the
+/// whole run, and not only among the calls, or among those of one client.
 pub fn ticket_that_stands_twice()
     ensures { IsNotRecorded ticket_twice }
+{}
+
+/// A client starts a call before its last one finished: it makes one call after the other.
+pub fn calls_that_overlap()
+    ensures { IsNotRecorded calls_overlap }
+{}
+
+/// Of the entries of two clients the one with the later start stands first: entries stand by rising start.
+pub fn entries_by_falling_start()
+    ensures { IsNotRecorded falling_starts }
 {}
 
 /// A call took a reply that no replica says it gave: replies aren't taken on the word of the call.
@@ -48,6 +58,16 @@ pub fn reply_that_stands_in_no_journal()
 /// alone.
 pub fn reply_that_was_not_sent_so()
     ensures { IsNotRecorded stamp_not_as_sent }
+{}
+
+/// A call took a reply that was served after it finished: a quorum is of replies that came while the call ran.
+pub fn reply_that_was_served_too_late()
+    ensures { IsNotRecorded served_too_late }
+{}
+
+/// A read took one reply twice: a quorum is of as many replicas as it has replies.
+pub fn reply_that_was_taken_twice()
+    ensures { IsNotRecorded one_reply_twice }
 {}
 
 /// The reply to a write has another stamp than its start: a replica doesn't choose the stamp, even where the call took
@@ -72,8 +92,8 @@ pub fn repair_that_was_not_needed()
     ensures { IsNotRecorded repair_to_both }
 {}
 
-/// What a replica holds of a key: the pair with the greatest stamp, and not the last; of two with one stamp the first; and
-/// what comes of another key changes nothing.
+/// What a replica holds of a key: the pair with the greatest stamp, and not the last; of two with one stamp the first;
+/// and what comes of another key changes nothing.
 pub fn pairs_that_are_held()
     ensures greatest { held 0 (answered (asked 0 1 5 (AskWrite 2)) 0 6 5 2
         ∷ answered (asked 1 1 3 (AskWrite 1)) 0 7 3 1 ∷ []) ≡ record { stamp = 5; value = 2 } }
