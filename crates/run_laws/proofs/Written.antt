@@ -57,6 +57,7 @@ below (suc n) P h k low = elim (cases_order k n) [
 abbrev pub place_at : List JournalEntry → ℕ → ℕ
 place_at js serve = position_or_len (λ j. j.reply.serve == serve) js
 
+-- and what was
 abbrev pub entry_at : List JournalEntry → ℕ → JournalEntry
 entry_at js serve = slice_index_or js (place_at js serve) (answered (asked 0 0 0 AskRead) 0 0 0 0)
 
@@ -121,10 +122,11 @@ serves replica js j h = record {
   pair = h.pair;
 }
 
--- a client made its calls as planned, and one after the other
+-- a client made this call as planned
 abbrev pub Planned : Run → ℕ → ℕ → Entry → Type 0
 Planned r client k e = IsAsPlanned (k + 1) (slice_index_or (calls_of r.plan client) k (planned Read 0)) e
 
+-- and finished it before it started the next
 abbrev pub InTurn : Run → ℕ → ℕ → Entry → Type 0
 InTurn r client k a = IfSome (slice_get (entries_of client r.entries) (k + 1)) (λ b. a.finish < b.start)
 
@@ -156,8 +158,8 @@ module _ (r : Run) (h : HoldsThroughout r) where
   there_is client k e at =
       let mine = contains_at (entries_of client r.entries) k e at in
       let whose = eqb-true e.client client (kept_passes (λ (x : Entry). x.client == client) r.entries e mine) in
-      let low = All-contains (λ (x : Entry). x.client < r.settings.clients) r.entries e (All-from_recursion (λ (x : Entry). x.client < r.settings.clients) r.entries h.clients)
-      (kept_is_there (λ (x : Entry). x.client == client) r.entries e mine) in
+      let there = kept_is_there (λ (x : Entry). x.client == client) r.entries e mine in
+      let low = by_element (λ (x : Entry). x.client < r.settings.clients) r.entries h.clients e there in
       omega arith
 
   are_planned : ArePlanned r.settings r.plan r.entries
