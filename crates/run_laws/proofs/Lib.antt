@@ -1,3 +1,4 @@
 pub mod Senders
 pub mod Stamps
 pub mod Admitted
+pub mod Written

@@ -1,5 +1,8 @@
-//! Laws of the definitions of recorded runs, as theorems: functions whose contracts are all that they are for.
+//! Laws of the definitions of recorded runs, and runs worked by hand, as theorems: functions whose contracts are all
+//! that they are for.
 #![tactic(auto)]
+
+pub mod examples;
 
 ghost use Rattle.run_laws.specs.Laws.{TookStandInJournal, ReadsReturnEarlierWrites, ReplicasDropNone};
 
