@@ -8,6 +8,7 @@ ghost use Rattle.history_csv.specs.Written.{op_text, value_text, header_text, li
 ghost use Rattle.history_csv.specs.Writer.{IsBetweenRecords, bytes_written};
 
 use csv::{ByteRecord, Writer, WriterBuilder};
+use itoa::{Buffer, write_digits};
 use stale_model::{Bytes, Kind, Line, Memory};
 use std::alloc::{AllocError, Global};
 
@@ -21,25 +22,37 @@ fn op_text(kind: Kind) -> &'static str
     }
 }
 
-// Puts a field of a letter, or of none, and a number behind those of a record. `text` is memory for it.
-fn push_number(
-    row: &mut ByteRecord,
-    text: &mut String,
-    letter: &str,
-    number: u64,
-) -> Result<(), AllocError>
+// How many bytes a line is thought to take.
+const PLAUSIBLE_LENGTH: usize = 40;
+
+// The length of the longest name: a letter and the digits of the greatest number of 64 bits.
+const LONGEST_NAME: usize = 21;
+
+// Puts the field of a number behind those of a record.
+fn push_number(row: &mut ByteRecord, number: u64) -> Result<(), AllocError>
     requires { partial_of row.old ≡ [] }
-    ensures fields { OnOk result
-        (fields_of row.new ≡ fields_of row.old ++ (letter.now ++ decimal number) ∷ []) }
+    ensures fields { OnOk result (fields_of row.new ≡ fields_of row.old ++ decimal number ∷ []) }
     ensures whole { OnOk result (partial_of row.new ≡ []) }
 {
-    text.clear();
-    write!(text, "{letter}{number}")?;
-    row.push_field(text.as_bytes())
+    let mut buffer = Buffer::new();
+    row.push_field(buffer.format(number).as_bytes())
+}
+
+// Puts the field of a letter and a number behind those of a record.
+fn push_name(row: &mut ByteRecord, letter: u8, number: u32) -> Result<(), AllocError>
+    requires { partial_of row.old ≡ [] }
+    ensures fields { OnOk result
+        (fields_of row.new ≡ fields_of row.old ++ (letter ∷ decimal number) ∷ []) }
+    ensures whole { OnOk result (partial_of row.new ≡ []) }
+{
+    let mut text = [0; LONGEST_NAME];
+    let start = write_digits(u64::from(number), &mut text, LONGEST_NAME) - 1;
+    text[start] = letter;
+    row.push_field(&text[start..])
 }
 
 // Puts the field of a value behind those of a record.
-fn push_value(row: &mut ByteRecord, text: &mut String, value: u32) -> Result<(), AllocError>
+fn push_value(row: &mut ByteRecord, value: u32) -> Result<(), AllocError>
     requires { partial_of row.old ≡ [] }
     ensures fields { OnOk result (fields_of row.new ≡ fields_of row.old ++ value_text value ∷ []) }
     ensures whole { OnOk result (partial_of row.new ≡ []) }
@@ -47,21 +60,21 @@ fn push_value(row: &mut ByteRecord, text: &mut String, value: u32) -> Result<(),
     if value == 0 {
         row.push_field(b"")
     } else {
-        push_number(row, text, "v", u64::from(value))
+        push_name(row, b'v', value)
     }
 }
 
 // Makes a record the fields of a line.
-fn fill_record(row: &mut ByteRecord, text: &mut String, line: &Line) -> Result<(), AllocError>
+fn fill_record(row: &mut ByteRecord, line: &Line) -> Result<(), AllocError>
     ensures { OnOk result (fields_of row.new ≡ line_fields line.now) }
 {
     row.clear();
-    push_number(row, text, "", u64::from(line.client))?;
+    push_number(row, u64::from(line.client))?;
     row.push_field(op_text(line.kind).as_bytes())?;
-    push_number(row, text, "k", u64::from(line.key))?;
-    push_value(row, text, line.value)?;
-    push_number(row, text, "", line.start)?;
-    push_number(row, text, "", line.finish)
+    push_name(row, b'k', line.key)?;
+    push_value(row, line.value)?;
+    push_number(row, line.start)?;
+    push_number(row, line.finish)
 }
 
 // Writes a record. All records have six fields, and a list takes any bytes, so an error is want of memory.
@@ -97,19 +110,14 @@ fn write_header(alloc: Global, writer: &mut Writer<Vec<u8>>) -> Result<(), Memor
     }
 }
 
-// Writes a line. `row` and `text` are memory for its fields.
-fn write_line(
-    writer: &mut Writer<Vec<u8>>,
-    row: &mut ByteRecord,
-    text: &mut String,
-    line: &Line,
-) -> Result<(), Memory>
+// Writes a line. `row` is memory for its fields.
+fn write_line(writer: &mut Writer<Vec<u8>>, row: &mut ByteRecord, line: &Line) -> Result<(), Memory>
     requires { IsBetweenRecords writer.old }
     ensures between { OnOk result (IsBetweenRecords writer.new) }
     ensures bytes { OnOk result (bytes_written writer.new
         ≡ bytes_written writer.old ++ line_text line.now) }
 {
-    match fill_record(row, text, line) {
+    match fill_record(row, line) {
         Ok(()) => write_record(writer, row),
         Err(_) => Err(Memory),
     }
@@ -122,11 +130,17 @@ fn write_lines(alloc: Global, writer: &mut Writer<Vec<u8>>, lines: &[Line]) -> R
         ≡ bytes_written writer.old ++ flat_map line_text lines.now) }
 {
     let mut row = ByteRecord::new(alloc);
-    let mut text = String::new(alloc);
     for line in lines {
-        write_line(writer, &mut row, &mut text, line)?;
+        write_line(writer, &mut row, line)?;
     }
     Ok(())
+}
+
+// An empty text with room for so many lines, as long as they are thought to be.
+fn empty_text(alloc: Global, lines: usize) -> Result<Vec<u8>, Memory>
+    ensures { IfOk result (λ text. text.items ≡ []) }
+{
+    Vec::with_capacity(alloc, lines.saturating_mul(PLAUSIBLE_LENGTH)).map_err(|_| Memory)
 }
 
 /// The text of a history of these lines: the header `client,op,key,value,start,finish`, and a record for
@@ -138,7 +152,7 @@ fn write_lines(alloc: Global, writer: &mut Writer<Vec<u8>>, lines: &[Line]) -> R
 pub fn write_history(alloc: Global, lines: &[Line]) -> Result<Bytes, Memory>
     ensures { IfOk result (λ text. text ≡ history_text lines.now) }
 {
-    let mut writer = WriterBuilder::new().from_writer(Vec::new(alloc));
+    let mut writer = WriterBuilder::new().from_writer(empty_text(alloc, lines.len())?);
     write_header(alloc, &mut writer)?;
     write_lines(alloc, &mut writer, lines)?;
     match writer.into_inner() {

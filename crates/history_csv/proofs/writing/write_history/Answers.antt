@@ -8,6 +8,6 @@ pub returns-in-Ok : goal.returns-in-Ok
 unfolding history_text
 returns-in-Ok c =
     let from = c.from_writer-writer.ensures in
-    let none : bytes_written c.from_writer-writer.result ≡ [] = rw (from.wtr, c.new-2.ensures.items, from.empty) refl in
+    let none : bytes_written c.from_writer-writer.result ≡ [] = rw (from.wtr, c.in_ok-empty_text.ensures, from.empty) refl in
     let header = c.in_ok-write_header.ensures.bytes ∙ ap (λ text. text ++ header_text) none in
     c.from_vec.ensures ∙ c.in-Ok.ensures.ok ∙ c.in_ok-write_lines.ensures ∙ ap (λ text. text ++ flat_map line_text c.args.lines.now) header
