@@ -1,0 +1,19 @@
+-- One more letter for a quorum.
+use Rattle.std.proofs.Common.{arith, ap, ◌∙◌, length}
+use Rattle.quorum_client.specs.FirstReplies.{taken_of}
+use Rattle.quorum_client.proofs.Replies.{gathered_more, length-with_reply}
+use Rattle.quorum_client.proofs.gather.take_quorum.Goals as goal
+
+pub loop-preserved-in-Some-take : goal.loop-preserved-in-Some-take
+loop-preserved-in-Some-take g c =
+    let i = c.loop.invariant in
+    let took = c.in-Some-take.ensures.some in
+    let added = c.add.ensures in
+    let many = ap length added.taken in
+    let few = length-with_reply c.args.seq c.args.replicas (taken_of c.loop.taken) c.in-Some-take.reply in
+    record {
+      own = ap (λ v. v.box) took ∙ i.own;
+      most = let now = added.filled.count in let before = i.filled.count in let short = c.if-taken-quorum.false in grind (arith, few, many, now, before, i.most, short);
+      filled = added.filled;
+      gathered = gathered_more c.args.seq c.args.replicas c.args.taker.now.taken c.loop.taker.taken c.take.new.pass.taken (taken_of c.loop.taken) (taken_of c.add.new.self) c.in-Some-take.reply i.gathered (ap (λ v. v.taken) took) added.taken;
+    }

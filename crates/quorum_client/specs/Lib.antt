@@ -1,0 +1,5 @@
+pub mod Letters
+pub mod Routes
+pub mod FirstReplies
+pub mod Clients
+pub mod Parts
