@@ -13,8 +13,7 @@ use Rattle.quorum_client.specs.declared.letters.Route.{Route}
 use Rattle.quorum_client.specs.Routes.{IsSentOn}
 use Rattle.quorum_client.specs.FirstReplies.{IsGathered}
 
--- a client: its number, how many calls each client makes, its quorums, the planned calls that it has not made, how many it has made,
--- its routes by replica, its inbox with the taker of it, and its seat
+-- a client: `calls` is how many calls each client makes, `left` the planned calls that it has not made, `made` how many it has made
 pub record ClientView : Type 0 where
   pub number : ℕ
   pub calls : ℕ

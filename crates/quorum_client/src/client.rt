@@ -1,13 +1,12 @@
 //! A client, and its calls.
-ghost use Rattle.std.specs.Prelude.{◌≡◌, ◌+◌, ◌*◌, ◌<◌, ◌≤◌, List, [], ◌∷◌, length, map, All, slice_index_or, vec_len};
+ghost use Rattle.std.specs.Prelude.{◌≡◌, ◌+◌, ◌*◌, ◌<◌, ◌≤◌, [], ◌∷◌, length, map, All, slice_index_or, vec_len};
 ghost use Rattle.std.specs.Arc.{arc_value};
 ghost use Rattle.stale_model.specs.declared.Kind.TheVariants.{Read, Write};
-ghost use Rattle.stale_model.specs.declared.store.Request.{Request as TheRequest};
 ghost use Rattle.stale_model.specs.Settings.{AreSettings};
-ghost use Rattle.stale_model.specs.Calls.{ask_of, repair_of};
+ghost use Rattle.stale_model.specs.Calls.{ask_of, taken_by, freshest as freshest_of};
 ghost use Rattle.quorum_client.specs.declared.letters.Note.TheVariants.{Done};
 ghost use Rattle.quorum_client.specs.Routes.{IsReadyRoute, IsRepairedOn, with_sent};
-ghost use Rattle.quorum_client.specs.Clients.{ClientView, IsCalled};
+ghost use Rattle.quorum_client.specs.Clients.{IsCalled};
 ghost use Rattle.quorum_client.specs.Parts.{view_of, IsReady, IsRound};
 
 use crate::gather::{await_all, freshest, is_stale, take_quorum};
@@ -37,8 +36,8 @@ struct Parts {
 }
 
 /// A client of the store, with its planned calls. A contract sees its number, how many calls each
-/// client makes, its quorums, the planned calls that are left, how many it has made, its routes to
-/// the replicas, its inbox, and its passes of the inbox and of the clock.
+/// client makes, its quorums, the planned calls that are left, how many it has made, its routes by
+/// replica, its inbox, the taker of it, and its seat.
 #[derive(Drop)]
 pub struct Client {
     parts: Parts,
@@ -56,12 +55,14 @@ impl Model for Client {
     ghost invariant = { λ c. IsReady c.parts };
 }
 
-/// What is left of a client that has made its calls: its seat, its routes by replica, and its
-/// taker.
+/// The passes of a client that has made its calls.
 #[derive(Drop)]
 pub struct ClientEnd {
+    /// Its seat, with all tickets that it drew.
     pub seat: Seat,
+    /// Its routes, the one to replica k at place k.
     pub routes: List<Route>,
+    /// The taker of its inbox.
     pub taker: TakerPass<Reply>,
 }
 
@@ -121,11 +122,12 @@ impl Client {
         self.parts.plan.as_slice().len() as u32 - self.parts.made
     }
 
-    /// Makes the next planned call, and gives its entry. It takes no memory. It asks every replica,
-    /// takes the replies of a quorum, and awaits that the clock has passed their tickets before it
-    /// draws its finish. A read then sends the freshest pair to each replica whose reply is older.
-    /// The gate is entered and left with the number of the call: that of the client by the calls
-    /// of each client, and its own among those of the client, counted from 1.
+    /// Makes the next planned call, and gives its entry. It takes no memory. It sends its request to
+    /// every replica, takes replies until as many replicas have replied as the quorum says, and
+    /// waits until the clock has passed their serve tickets before it draws its finish. A read then
+    /// sends the freshest pair to each replica whose reply is older. It enters the gate before all
+    /// that, and leaves it after, with the number of the call among those of all clients: the
+    /// client's number times the calls of each client, plus its own number, counted from 1.
     pub fn call<R: Wait, G: Gate>(&mut self, rt: &R, clock: &Clock, gate: &G) -> Entry
         requires own { self.old.seat.clock ≡ clock.now.id }
         requires left { 0 < length self.old.left }
@@ -216,7 +218,7 @@ impl Parts {
         let seq = self.made + 1;
         let replicas = self.routes.len() as u32;
         let start = clock.draw(&mut self.seat);
-        let request = request(self.number, seq, start, call);
+        let request = request_of(self.number, seq, start, call);
         send_all(rt, &mut self.routes, Note::Ask(request));
         let taken = take_quorum(rt, &self.inbox, &mut self.taker, seq, replicas, quorum);
         await_all(rt, clock, &mut self.seat, &taken);
@@ -237,7 +239,7 @@ impl Parts {
 }
 
 // What a call asks of every replica.
-fn request(client: u32, seq: u32, start: u64, call: &PlanCall) -> Request
+fn request_of(client: u32, seq: u32, start: u64, call: &PlanCall) -> Request
     ensures { result ≡ record {
       client = client;
       seq = seq;
@@ -264,7 +266,7 @@ fn send_repairs<R: Wait>(rt: &R, routes: &mut Vec<Route>, entry: &Entry, best: &
     requires ready { All (λ r. IsReadyRoute entry.now.client 1 r) routes.old.items }
     requires few { vec_len routes.old ≤ 7 }
     requires count { entry.now.took_count ≤ 7 }
-    requires best { best.now ≡ Rattle.stale_model.specs.Calls.freshest (Rattle.stale_model.specs.Calls.taken_by entry.now) }
+    requires best { best.now ≡ freshest_of (taken_by entry.now) }
     ensures { IsRepairedOn entry.now routes.old.items routes.new.items }
 {
     let note = Note::Ask(Request {

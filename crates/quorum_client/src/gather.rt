@@ -1,5 +1,5 @@
 //! The replies that a call takes for its quorum.
-ghost use Rattle.std.specs.Prelude.{◌≡◌, ◌+◌, ◌<◌, ◌≤◌, [], ◌++◌, length, All};
+ghost use Rattle.std.specs.Prelude.{◌≡◌, ◌<◌, ◌≤◌, [], length, All};
 ghost use Rattle.stale_model.specs.Calls.{is_stale as is_stale_reply, fresher as later_fresher, freshest as first_freshest};
 ghost use Rattle.quorum_client.specs.FirstReplies.{has_reply_of, with_reply, taken_of, IsFilled, IsGathered};
 
@@ -9,11 +9,11 @@ use std::sync::Wait;
 use std::thread;
 use ticket_clock::{Clock, Seat};
 
-/// The replies that a call has taken, in the first `count` places. The others are zeros.
+// The replies that a call has taken, in the first `count` places. The others are zeros.
 #[derive(Clone, Copy)]
-pub struct Taken {
-    pub took: [Took; MOST_REPLICAS],
-    pub count: u32,
+pub(crate) struct Taken {
+    pub(crate) took: [Took; MOST_REPLICAS],
+    pub(crate) count: u32,
 }
 
 impl Taken {
