@@ -1,5 +1,5 @@
 -- A client inside.
-use Rattle.std.specs.Prelude.{◌≡◌, ℕ, ◌+◌, ◌-◌, ◌*◌, ◌^◌, ◌<◌, ◌≤◌, List, [], ◌∷◌, ◌++◌, length, map, drop, All, vec_len}
+use Rattle.std.specs.Prelude.{◌≡◌, ℕ, ◌+◌, ◌-◌, ◌*◌, ◌^◌, ◌<◌, ◌≤◌, [], ◌∷◌, ◌++◌, length, map, drop, All, vec_len}
 use Rattle.std.specs.Arc.{arc_value}
 use Rattle.stale_model.specs.declared.store.PlanCall.{PlanCall}
 use Rattle.stale_model.specs.declared.store.Entry.{Entry}

@@ -63,7 +63,7 @@ fn has_reply(taken: &[Took], replica: u32) -> bool
     taken.iter().any(|took| took.replica == replica)
 }
 
-// Whether a reply of this replica is older than the stamp.
+/// Whether a reply of this replica is older than the stamp.
 pub(crate) fn is_stale(taken: &[Took], replica: u32, stamp: u64) -> bool
     ensures { result ≡ is_stale_reply stamp replica taken.now }
 {
@@ -72,8 +72,8 @@ pub(crate) fn is_stale(taken: &[Took], replica: u32, stamp: u64) -> bool
         .any(|took| took.replica == replica && took.stamp < stamp)
 }
 
-// Takes replies to the call of this number, until as many are the first of their replicas as the
-// quorum says.
+/// Takes replies to the call of this number, until as many are the first of their replicas as the
+/// quorum says.
 pub(crate) fn take_quorum<R: Wait>(
     rt: &R,
     inbox: &PostBox<Reply>,
@@ -102,7 +102,7 @@ pub(crate) fn take_quorum<R: Wait>(
     unreachable!()
 }
 
-// Waits until the clock has passed the serve ticket of each reply.
+/// Waits until the clock has passed the serve ticket of each reply.
 pub(crate) fn await_all<R: Wait>(rt: &R, clock: &Clock, seat: &mut Seat, taken: &Taken)
     requires own { seat.old.clock ≡ clock.now.id }
     requires few { taken.now.count ≤ 7 }
@@ -127,7 +127,7 @@ fn fresher(best: &Took, took: &Took) -> Took
     }
 }
 
-// The first reply with the greatest stamp.
+/// The first reply with the greatest stamp.
 pub(crate) fn freshest(taken: &[Took]) -> Took
     requires { 0 < length taken.now }
     ensures { result ≡ first_freshest taken.now }

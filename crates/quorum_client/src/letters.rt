@@ -39,7 +39,7 @@ pub struct Route {
     pub pass: SenderPass<Note>,
 }
 
-// Sends a note to every replica.
+/// Sends a note to every replica.
 pub(crate) fn send_all<R: Wait>(rt: &R, routes: &mut Vec<Route>, note: Note)
     requires { All (λ r. IsReadyRoute (sender_of note) 1 r) routes.old.items }
     ensures { routes.new.items ≡ map (with_sent (note ∷ [])) routes.old.items }
@@ -49,7 +49,7 @@ pub(crate) fn send_all<R: Wait>(rt: &R, routes: &mut Vec<Route>, note: Note)
     }
 }
 
-// Sends a note to one replica.
+/// Sends a note to one replica.
 pub(crate) fn send_one<R: Wait>(rt: &R, route: &mut Route, note: Note)
     requires { IsReadyRoute (sender_of note) 1 route.old }
     ensures { route.new ≡ with_sent (note ∷ []) route.old }

@@ -89,6 +89,31 @@ fn open_route<R: Wait>(
     Ok((Route { to, pass }, post, taker))
 }
 
+// An inbox for at most two replies of replica 0, with its taker; and once more, for the replica.
+fn open_inbox<R: Wait>(
+    rt: &R,
+    alloc: Global,
+) -> Result<
+    (
+        Arc<PostBox<Reply>>,
+        TakerPass<Reply>,
+        Arc<PostBox<Reply>>,
+        SenderPass<Reply>,
+    ),
+    Memory,
+>
+    ensures taker { IfOk result (λ made. (made.1.box ≡ arc_value made.0) × (made.1.taken ≡ [])) }
+    ensures pass { IfOk result (λ made. (made.3.box ≡ arc_value made.2) × (made.3.number ≡ 0)
+        × (made.3.budget ≡ 2)) }
+{
+    let (post, mut whole) = PostBox::<Reply>::open(alloc, 2)?;
+    let pass = post.split_sender(rt, &mut whole, 0, 2);
+    let taker = post.split_taker(rt, &mut whole);
+    let inbox = Arc::new(alloc, post).map_err(|_| Memory)?;
+    let replies = Arc::try_clone(&inbox).map_err(|_| Memory)?;
+    Ok((inbox, taker, replies, pass))
+}
+
 // The next request in the box, for which it waits.
 fn next_request<R: Wait>(rt: &R, post: &PostBox<Note>, taker: &mut TakerPass<Note>) -> Request
     requires { taker.old.box ≡ post.now }
@@ -161,6 +186,38 @@ fn make_all<R: Wait>(
     Ok((client, entries))
 }
 
+// Makes all calls of a client beside a thread that serves so many requests.
+fn beside<R: Threads + Wait + Sync>(
+    rt: &R,
+    clock: &Clock,
+    seat: Seat,
+    requests: &PostBox<Note>,
+    notes: TakerPass<Note>,
+    replies: &PostBox<Reply>,
+    pass: SenderPass<Reply>,
+    client: Client,
+    entries: Vec<Entry>,
+    count: u32,
+) -> Result<(Client, Vec<Entry>), Memory>
+    requires seat { (seat.clock ≡ clock.now.id) × (count ≤ seat.left) }
+    requires notes { notes.box ≡ requests.now }
+    requires pass { (pass.box ≡ replies.now) × (pass.number ≡ 0) × (count ≤ pass.budget) }
+    requires client { client.seat.clock ≡ clock.now.id }
+{
+    let ((), made) = join(
+        rt,
+        move || -> ()
+            requires { IsSync R.row × (seat.clock ≡ clock.now.id) × (count ≤ seat.left)
+                × (notes.box ≡ requests.now) × (pass.box ≡ replies.now) × (pass.number ≡ 0)
+                × (count ≤ pass.budget) }
+        { serve(rt, clock, seat, requests, notes, replies, pass, count) },
+        move || -> Result<(Client, Vec<Entry>), Memory>
+            requires { IsSync R.row × (client.seat.clock ≡ clock.now.id) }
+        { make_all(rt, clock, client, entries) },
+    );
+    made
+}
+
 // The entries of at most two calls of a client, with one replica in a thread of its own, and how
 // many calls are then left.
 fn beside_a_replica<R: Threads + Wait + Sync>(
@@ -177,25 +234,11 @@ fn beside_a_replica<R: Threads + Wait + Sync>(
     let theirs = clock.split(&mut seat, 2);
     let (route, requests, notes) = open_route(rt, alloc)?;
     let routes = with_route(Vec::new(alloc), route)?;
-    let (post, mut whole) = PostBox::<Reply>::open(alloc, 2)?;
-    let pass = post.split_sender(rt, &mut whole, 0, 2);
-    let taker = post.split_taker(rt, &mut whole);
-    let inbox = Arc::new(alloc, post).map_err(|_| Memory)?;
-    let replies = Arc::try_clone(&inbox).map_err(|_| Memory)?;
+    let (inbox, taker, replies, pass) = open_inbox(rt, alloc)?;
     let client = only_client(calls, 1, routes, inbox, taker, seat);
-    let (clock, requests, replies) = (&clock, &*requests, &*replies);
-    let ((), made) = join(
-        rt,
-        move || -> ()
-            requires { IsSync R.row × (theirs.clock ≡ clock.now.id) × (count ≤ theirs.left)
-                × (notes.box ≡ requests.now) × (pass.box ≡ replies.now) × (pass.number ≡ 0)
-                × (count ≤ pass.budget) }
-        { serve(rt, clock, theirs, requests, notes, replies, pass, count) },
-        move || -> Result<(Client, Vec<Entry>), Memory>
-            requires { client.seat.clock ≡ clock.now.id }
-        { make_all(rt, clock, client, entries) },
-    );
-    let (client, entries) = made?;
+    let (client, entries) = beside(
+        rt, &clock, theirs, &requests, notes, &replies, pass, client, entries, count,
+    )?;
     Ok((entries, client.left()))
 }
 

@@ -12,7 +12,8 @@ loop-took-preserved g c =
     record {
       seat = awaited.seat ∙ ap (λ (s : SeatView). record s { seen = c.await_past.new.seat.seen }) i.seat;
       seen = omega (arith, awaited.seen, i.seen);
-      past = past_more (take c.args.taken.now.count c.args.taken.now.took) c.loop-took.took-index c.loop-took.seat.seen c.await_past.new.seat.seen awaited.seen (omega arith) (grind (arith, common_steps, awaited.past)) i.past;
+      past = past_more (take c.args.taken.now.count c.args.taken.now.took)
+          c.loop-took.took-index c.loop-took.seat.seen c.await_past.new.seat.seen awaited.seen (omega arith) (grind (arith, common_steps, awaited.past)) i.past;
     }
 
 pub returns-clause-past : goal.returns-clause-past

@@ -12,10 +12,13 @@ loop-preserved-in-Some-take g c =
     let added = c.add.ensures in
     let replies = with_reply c.args.seq c.args.replicas (taken_of c.loop.taken) c.in-Some-take.reply in
     let many : length (taken_of c.add.new.self) ≡ length replies = ap (λ (ts : List Took). length ts) added.taken in
-    let few : length replies ≤ length (taken_of c.loop.taken) + 1 = length-with_reply c.args.seq c.args.replicas (taken_of c.loop.taken) c.in-Some-take.reply in
+    let few : length replies ≤ length (taken_of c.loop.taken) + 1 =
+    length-with_reply c.args.seq c.args.replicas (taken_of c.loop.taken) c.in-Some-take.reply
+    in
     record {
       own = ap (λ v. v.box) took ∙ i.own;
-      most = let now = added.filled.count in let before = i.filled.count in let short = c.if-taken-quorum.false in grind (arith, few, many, now, before, i.most, short);
+      most = grind (arith, few, many, added.filled.count, i.filled.count, i.most, c.if-taken-quorum.false);
       filled = added.filled;
-      gathered = gathered_more c.args.seq c.args.replicas c.args.taker.now.taken c.loop.taker.taken c.take.new.pass.taken (taken_of c.loop.taken) (taken_of c.add.new.self) c.in-Some-take.reply i.gathered (ap (λ v. v.taken) took) added.taken;
+      gathered = gathered_more c.args.seq c.args.replicas c.args.taker.now.taken c.loop.taker.taken c.take.new.pass.taken
+          (taken_of c.loop.taken) (taken_of c.add.new.self) c.in-Some-take.reply i.gathered (ap (λ v. v.taken) took) added.taken;
     }

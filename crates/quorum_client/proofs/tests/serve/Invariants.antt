@@ -1,5 +1,5 @@
 -- What is left for the requests that are to come.
-use Rattle.std.proofs.Common.{◌≡◌, ◌+◌, ◌≤◌}
+use Rattle.std.proofs.Common.{◌≡◌, ◌+◌}
 use Rattle.quorum_client.proofs.tests.serve.Given as goal
 
 abbrev pub invariant-loop-served : goal.invariant-loop-served

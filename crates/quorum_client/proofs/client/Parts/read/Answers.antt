@@ -12,9 +12,12 @@ send_repairs-requires-clause-ready g c =
 
 pub returns-clause-ready : goal.returns-clause-ready
 returns-clause-ready g c =
-    ready_after_read c.args.self.now c.round-entry.new.self _ c.args.call.now c.round-entry.result _ c.requires.ready c.requires.left c.round-entry.ensures refl c.send_repairs.ensures
+    ready_after_read c.args.self.now c.round-entry.new.self _ c.args.call.now c.round-entry.result _ c.requires.ready c.requires.left
+    c.round-entry.ensures refl c.send_repairs.ensures
 
 pub returns-clause-called : goal.returns-clause-called
 returns-clause-called g c =
-    called_after_read c.args.self.now c.round-entry.new.self (record c.round-entry.new.self { routes = c.send_repairs.new.routes }) c.args.call.now c.round-entry.result _ c.round-entry.ensures c.requires.kind c.requires.left c.requires.next refl
+    let after = record c.round-entry.new.self { routes = c.send_repairs.new.routes } in
+    called_after_read c.args.self.now c.round-entry.new.self after c.args.call.now c.round-entry.result _ c.round-entry.ensures
+    c.requires.kind c.requires.left c.requires.next refl
     (ap (λ t. t.value) c.freshest-best.ensures) c.send_repairs.ensures

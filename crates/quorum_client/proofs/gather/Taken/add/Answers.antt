@@ -1,6 +1,5 @@
 -- A reply in the next place.
-use Rattle.std.proofs.Common.{arith, length-take}
-use Rattle.std.proofs.lemmas.Grind.{common_steps}
+use Rattle.std.proofs.Common.{arith}
 use Rattle.quorum_client.proofs.Replies.{filled_more}
 use Rattle.quorum_client.proofs.gather.Taken.add.Goals as goal
 
