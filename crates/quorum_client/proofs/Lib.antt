@@ -1,1 +1,4 @@
 pub mod WholePlans
+pub mod Replies
+pub mod Sent
+pub mod Called
