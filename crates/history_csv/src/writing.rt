@@ -1,16 +1,15 @@
 //! Writes histories.
-ghost use Rattle.std.specs.Prelude.{◌≡◌, ◌++◌, ◌∷◌, [], IfOk, OnOk};
+ghost use Rattle.std.specs.Prelude.{◌≡◌, ◌++◌, ◌∷◌, [], map, IfOk, OnOk};
 ghost use Rattle.std.specs.Fmt.{decimal};
 ghost use Rattle.std.specs.List.{flat_map};
-ghost use Rattle.csv.specs.Records.{fields_of, partial_of};
 ghost use Rattle.csv.specs.Writing.{default_writer, row_text};
-ghost use Rattle.history_csv.specs.Written.{op_text, value_text, header_text, line_fields, line_text, history_text};
+ghost use Rattle.history_csv.specs.Written.{op_text, value_text, header_text, line_text, history_text};
 ghost use Rattle.history_csv.specs.Writer.{IsBetweenRecords, bytes_written};
 
-use csv::{ByteRecord, Writer, WriterBuilder};
+use csv::{Writer, WriterBuilder};
 use itoa::{Buffer, write_digits};
 use stale_model::{Bytes, Kind, Line, Memory};
-use std::alloc::{AllocError, Global};
+use std::alloc::Global;
 
 // The word of a kind.
 fn op_text(kind: Kind) -> &'static str
@@ -25,73 +24,44 @@ fn op_text(kind: Kind) -> &'static str
 // How many bytes a line is thought to take.
 const PLAUSIBLE_LENGTH: usize = 40;
 
-// The length of the longest name: a letter and the digits of the greatest number of 64 bits.
-const LONGEST_NAME: usize = 21;
+// The length of the longest name: a letter and the digits of the greatest number of 32 bits.
+const LONGEST_NAME: usize = 11;
 
-// Puts the field of a number behind those of a record.
-fn push_number(row: &mut ByteRecord, number: u64) -> Result<(), AllocError>
-    requires { partial_of row.old ≡ [] }
-    ensures fields { OnOk result (fields_of row.new ≡ fields_of row.old ++ decimal number ∷ []) }
-    ensures whole { OnOk result (partial_of row.new ≡ []) }
+// The name of a letter and a number. `text` is memory for it.
+fn name_text(letter: u8, number: u32, text: &mut [u8; LONGEST_NAME]) -> &[u8]
+    ensures { result.now ≡ letter ∷ decimal number }
 {
-    let mut buffer = Buffer::new();
-    row.push_field(buffer.format(number).as_bytes())
-}
-
-// Puts the field of a letter and a number behind those of a record.
-fn push_name(row: &mut ByteRecord, letter: u8, number: u32) -> Result<(), AllocError>
-    requires { partial_of row.old ≡ [] }
-    ensures fields { OnOk result
-        (fields_of row.new ≡ fields_of row.old ++ (letter ∷ decimal number) ∷ []) }
-    ensures whole { OnOk result (partial_of row.new ≡ []) }
-{
-    let mut text = [0; LONGEST_NAME];
-    let start = write_digits(u64::from(number), &mut text, LONGEST_NAME) - 1;
+    let start = write_digits(u64::from(number), text, LONGEST_NAME) - 1;
     text[start] = letter;
-    row.push_field(&text[start..])
+    &text[start..]
 }
 
-// Puts the field of a value behind those of a record.
-fn push_value(row: &mut ByteRecord, value: u32) -> Result<(), AllocError>
-    requires { partial_of row.old ≡ [] }
-    ensures fields { OnOk result (fields_of row.new ≡ fields_of row.old ++ value_text value ∷ []) }
-    ensures whole { OnOk result (partial_of row.new ≡ []) }
+// The text of a value. `text` is memory for it.
+fn value_text(value: u32, text: &mut [u8; LONGEST_NAME]) -> &[u8]
+    ensures { result.now ≡ value_text value }
 {
     if value == 0 {
-        row.push_field(b"")
+        b""
     } else {
-        push_name(row, b'v', value)
+        name_text(b'v', value, text)
     }
 }
 
-// Makes a record the fields of a line.
-fn fill_record(row: &mut ByteRecord, line: &Line) -> Result<(), AllocError>
-    ensures { OnOk result (fields_of row.new ≡ line_fields line.now) }
-{
-    row.clear();
-    push_number(row, u64::from(line.client))?;
-    row.push_field(op_text(line.kind).as_bytes())?;
-    push_name(row, b'k', line.key)?;
-    push_value(row, line.value)?;
-    push_number(row, line.start)?;
-    push_number(row, line.finish)
-}
-
 // Writes a record. All records have six fields, and a list takes any bytes, so an error is want of memory.
-fn write_record(writer: &mut Writer<Vec<u8>>, row: &ByteRecord) -> Result<(), Memory>
+fn write_record(writer: &mut Writer<Vec<u8>>, fields: &[&[u8]]) -> Result<(), Memory>
     requires { IsBetweenRecords writer.old }
     ensures between { OnOk result (IsBetweenRecords writer.new) }
     ensures bytes { OnOk result (bytes_written writer.new
-        ≡ bytes_written writer.old ++ row_text default_writer (fields_of row.now)) }
+        ≡ bytes_written writer.old ++ row_text default_writer (map (λ f. f.now) fields.now)) }
 {
-    match writer.write_byte_record(row) {
+    match writer.write_fields(fields) {
         Ok(()) => Ok(()),
         Err(_) => Err(Memory),
     }
 }
 
 // Writes the header.
-fn write_header(alloc: Global, writer: &mut Writer<Vec<u8>>) -> Result<(), Memory>
+fn write_header(writer: &mut Writer<Vec<u8>>) -> Result<(), Memory>
     requires { IsBetweenRecords writer.old }
     ensures between { OnOk result (IsBetweenRecords writer.new) }
     ensures bytes { OnOk result (bytes_written writer.new ≡ bytes_written writer.old ++ header_text) }
@@ -104,34 +74,40 @@ fn write_header(alloc: Global, writer: &mut Writer<Vec<u8>>) -> Result<(), Memor
         b"start",
         b"finish",
     ];
-    match ByteRecord::from_fields(alloc, &names) {
-        Ok(row) => write_record(writer, &row),
-        Err(_) => Err(Memory),
-    }
+    write_record(writer, &names)
 }
 
-// Writes a line. `row` is memory for its fields.
-fn write_line(writer: &mut Writer<Vec<u8>>, row: &mut ByteRecord, line: &Line) -> Result<(), Memory>
+// Writes a line.
+fn write_line(writer: &mut Writer<Vec<u8>>, line: &Line) -> Result<(), Memory>
     requires { IsBetweenRecords writer.old }
     ensures between { OnOk result (IsBetweenRecords writer.new) }
     ensures bytes { OnOk result (bytes_written writer.new
         ≡ bytes_written writer.old ++ line_text line.now) }
 {
-    match fill_record(row, line) {
-        Ok(()) => write_record(writer, row),
-        Err(_) => Err(Memory),
-    }
+    let mut client = Buffer::new();
+    let mut key = [0; LONGEST_NAME];
+    let mut value = [0; LONGEST_NAME];
+    let mut start = Buffer::new();
+    let mut finish = Buffer::new();
+    let fields = [
+        client.format(line.client).as_bytes(),
+        op_text(line.kind).as_bytes(),
+        name_text(b'k', line.key, &mut key),
+        value_text(line.value, &mut value),
+        start.format(line.start).as_bytes(),
+        finish.format(line.finish).as_bytes(),
+    ];
+    write_record(writer, &fields)
 }
 
 // Writes lines.
-fn write_lines(alloc: Global, writer: &mut Writer<Vec<u8>>, lines: &[Line]) -> Result<(), Memory>
+fn write_lines(writer: &mut Writer<Vec<u8>>, lines: &[Line]) -> Result<(), Memory>
     requires { IsBetweenRecords writer.old }
     ensures { OnOk result (bytes_written writer.new
         ≡ bytes_written writer.old ++ flat_map line_text lines.now) }
 {
-    let mut row = ByteRecord::new(alloc);
     for line in lines {
-        write_line(writer, &mut row, line)?;
+        write_line(writer, line)?;
     }
     Ok(())
 }
@@ -153,8 +129,8 @@ pub fn write_history(alloc: Global, lines: &[Line]) -> Result<Bytes, Memory>
     ensures { IfOk result (λ text. text ≡ history_text lines.now) }
 {
     let mut writer = WriterBuilder::new().from_writer(empty_text(alloc, lines.len())?);
-    write_header(alloc, &mut writer)?;
-    write_lines(alloc, &mut writer, lines)?;
+    write_header(&mut writer)?;
+    write_lines(&mut writer, lines)?;
     match writer.into_inner() {
         Ok(text) => Ok(Bytes::from_vec(text)),
         Err(_) => Err(Memory),
