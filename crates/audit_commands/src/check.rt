@@ -16,6 +16,7 @@ use audit_ports::{Shelf, Sink};
 use cert_checker::{Checked, check_all};
 use stale_model::Bytes;
 use std::alloc::{AllocError, Global};
+use std::mem::forget;
 
 // What is found of the verdicts in the certificate file, against the history in its file.
 fn found_in<S: Shelf>(
@@ -32,7 +33,11 @@ fn found_in<S: Shelf>(
     let history = history_in(alloc, shelf, file.as_slice())?;
     let keys = history.keys.as_slice().len() as u32;
     let verdicts = verdicts_in(alloc, shelf, cert.as_slice(), keys)?;
-    Ok(check_all(alloc, &history, verdicts.as_slice())?)
+    let found = check_all(alloc, &history, verdicts.as_slice());
+    // The process ends here, so nothing is taken apart.
+    forget(history);
+    forget(verdicts);
+    Ok(found?)
 }
 
 // The line on what was found.

@@ -3,6 +3,7 @@ pub mod NumberSteps
 pub mod Splits
 pub mod WrittenLines
 pub mod Places
+pub mod EmptyParts
 pub mod Joined
 pub mod LineWords
 pub mod LineReads

@@ -1,5 +1,5 @@
 -- Numbers and their one text.
-use Rattle.std.proofs.Common.{◌≡◌, ◌<◌, ◌≤◌, ◌^◌, ◌==◌, ℕ, Bool, true, false, ◌&&◌, not, List, [], ◌∷◌, length, get_or, Some, None, Result, Err, refl, sym, ◌∙◌, ap, arith, rules, cond, nat_le, true≢false, subst, lit<, zero, suc, eq-eqb}
+use Rattle.std.proofs.Common.{◌≡◌, ◌<◌, ◌≤◌, ◌^◌, ◌==◌, ◌+◌, ◌-◌, ◌*◌, ℕ, Bool, true, false, ◌&&◌, not, List, [], ◌∷◌, length, take, get_or, Some, None, Result, Err, refl, sym, ◌∙◌, ap, arith, rules, cond, nat_le, true≢false, subst, lit<, zero, suc, eq-eqb}
 use Rattle.std.specs.List.{list_all}
 use Rattle.std.specs.Char.{is_ascii_digit}
 use Rattle.std.specs.Fmt.{decimal}
@@ -9,7 +9,12 @@ use Rattle.std.proofs.lemmas.Bool.Decides.{nat_tests}
 use Rattle.std.proofs.lemmas.Bool.{leb-true, le-leb}
 use Rattle.std.specs.Result.{OkIff}
 use Rattle.std.proofs.lemmas.Str.{IsUtf8-from_ascii}
-use Rattle.std.proofs.lemmas.Str.Parse.{IsNumeralModel, numerals_by_value, parse_digits}
+use Rattle.std.proofs.lemmas.Str.Parse.{IsNumeralModel, numerals_by_value, parse_digits, digits_value_short}
+use Rattle.std.specs.Int.{IsInRange}
+use Rattle.std.proofs.lemmas.Str.{digit_value_digit}
+use Rattle.std.proofs.lemmas.Int.Digits.{digits_value_more}
+use Rattle.std.proofs.lemmas.List.{length-take-le}
+use Rattle.std.proofs.lemmas.List.Folds.{list_all_more}
 use Rattle.std.proofs.lemmas.Fmt.{first_decimal, decimal-digits_value, digits_decimal, digits_value-decimal, IsAscii-from_digits, decimal_digit}
 use Rattle.cert_text.specs.Numbers.{begins_well, is_numeral, number_of}
 
@@ -43,6 +48,24 @@ refused_numeral word most r e fits is parses err = go (nat_le (digits_value 10 w
     go : (b : Bool) → nat_le (digits_value 10 word) most ≡ b → number_of most word ≡ None
     go true t = absurd (none (some, omega (arith, leb-true _ _ t)))
     go false t = rw (is, t) refl
+
+-- the number of fewer than 19 digits
+pub few_digits : (word : List ℕ) (i : ℕ) → i < length word → i < 19 → list_all is_ascii_digit (take i word) ≡ true → digits_value 10 (take i word) < 10 ^ 18
+few_digits word i within few digits =
+    let size : length (take i word) ≡ i = length-take-le i word (omega arith) in
+    digits_value_short own (take i word) 18 digits (omega (arith, size))
+
+-- one digit more, behind digits
+pub digits_more : (word : List ℕ) (i : ℕ) → i < length word → list_all is_ascii_digit (take i word) ≡ true → is_ascii_digit (get_or word i 0) ≡ true
+    → list_all is_ascii_digit (take (i + 1) word) ≡ true
+digits_more word i within digits digit = list_all_more is_ascii_digit word i 0 within ∙ ap (λ b. b && is_ascii_digit (get_or word i 0)) digits ∙ digit
+
+-- the number of one digit more
+pub one_digit_more : (word : List ℕ) (i n : ℕ) → i < length word → IsInRange 48 57 (get_or word i 0) → n ≡ digits_value 10 (take i word)
+    → 10 * n + (get_or word i 0 - 48) ≡ digits_value 10 (take (i + 1) word)
+one_digit_more word i n within digit is =
+    let value = digit_value_digit (get_or word i 0) digit in
+    omega (arith, value, is, digits_value_more 10 word i within)
 
 above_48 : (d : ℕ) → 48 < d → (d == 48) ≡ false
 above_48 d h = grind (arith, nat_tests)

@@ -1,7 +1,8 @@
 //! Numbers in a text.
-ghost use Rattle.std.specs.Prelude.{◌≡◌, ◌⊎◌, Err, take, IfOk, option_map};
+ghost use Rattle.std.specs.Prelude.{◌≡◌, ◌⊎◌, ◌≤◌, if◌then◌else◌, Err, Some, None, take, length, IfOk, option_map};
 ghost use Rattle.std.specs.List.{list_all};
 ghost use Rattle.std.specs.Char.{is_ascii_digit};
+ghost use Rattle.std.specs.Str.Parse.{digits_value};
 ghost use Rattle.cert_text.specs.Numbers.{begins_well, is_numeral, number_of, numbers_of, most_record};
 ghost use Rattle.cert_text.specs.Words.{words_after, one_number, records_of};
 
@@ -38,8 +39,24 @@ fn is_numeral(word: &[u8]) -> bool
     begins_well(word) && are_digits(word)
 }
 
-// The number that a word is, where it is at most `most`.
-fn number_of(word: &[u8], most: u64) -> Option<u64>
+// The number of at most 19 digits, where each byte of a word is one.
+fn digits_of(word: &[u8]) -> Option<u64>
+    requires { length word.now ≤ 19 }
+    ensures { result ≡ (if list_all is_ascii_digit word.now
+        then Some (digits_value 10 word.now) else None) }
+{
+    let mut number: u64 = 0;
+    for byte in word {
+        if !byte.is_ascii_digit() {
+            return None;
+        }
+        number = 10 * number + u64::from(*byte - b'0');
+    }
+    Some(number)
+}
+
+// The number that a word of any length is, where it is at most `most`.
+fn long_number(word: &[u8], most: u64) -> Option<u64>
     ensures { result ≡ number_of most word.now }
 {
     if !is_numeral(word) {
@@ -51,6 +68,20 @@ fn number_of(word: &[u8], most: u64) -> Option<u64>
     let Ok(number) = text.parse::<u64>() else {
         return None;
     };
+    if number <= most { Some(number) } else { None }
+}
+
+// The number that a word is, where it is at most `most`.
+fn number_of(word: &[u8], most: u64) -> Option<u64>
+    ensures { result ≡ number_of most word.now }
+{
+    if word.len() > 19 {
+        return long_number(word, most);
+    }
+    if !begins_well(word) {
+        return None;
+    }
+    let number = digits_of(word)?;
     if number <= most { Some(number) } else { None }
 }
 

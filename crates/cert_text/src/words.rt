@@ -45,31 +45,51 @@ pub(crate) fn next_word(text: &[u8]) -> Option<(&[u8], &[u8])>
     }
 }
 
+// Whether one of the parts of a text between its blanks is empty.
+fn has_empty_part(words: &[u8]) -> bool
+    ensures { result ≡ list_any is_empty (words_of words.now) }
+{
+    let mut found = false;
+    let mut empty = true;
+    for byte in words {
+        let blank = *byte == b' ';
+        found = found || (empty && blank);
+        empty = blank;
+    }
+    found || empty
+}
+
 /// Whether one of the words is empty.
 pub(crate) fn has_empty_word(text: &[u8]) -> bool
     ensures { result ≡ list_any is_empty (words_after text.now) }
 {
-    let mut rest = text;
-    while let Some((word, after)) = next_word(rest) {
-        if word.is_empty() {
-            return true;
-        }
-        rest = after;
+    match text {
+        [] => false,
+        [_, words @ ..] => has_empty_part(words),
     }
-    false
+}
+
+// How many parts of a text stand between its blanks.
+fn count_parts(words: &[u8]) -> usize
+    ensures { result ≡ length (words_of words.now) }
+{
+    let mut blanks = 0;
+    for byte in words {
+        if *byte == b' ' {
+            blanks += 1;
+        }
+    }
+    blanks + 1
 }
 
 /// How many words there are.
 pub(crate) fn count_words(text: &[u8]) -> usize
     ensures { result ≡ length (words_after text.now) }
 {
-    let mut count = 0;
-    let mut rest = text;
-    while let Some((_, after)) = next_word(rest) {
-        count += 1;
-        rest = after;
+    match text {
+        [] => 0,
+        [_, words @ ..] => count_parts(words),
     }
-    count
 }
 
 /// The words after the first so many.

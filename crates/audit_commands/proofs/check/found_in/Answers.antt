@@ -19,8 +19,8 @@ returns-in_err-verdicts-clause-err g c =
     rw is (cert_shows c.args.file.now c.args.cert.now (g.S.Shelf.shown c.args.shelf.now) (g.S.Shelf.shown c.history_in.new.shelf) (g.S.Shelf.shown c.verdicts_in.new.shelf)
     c.in_ok-history.history c.in_err-verdicts.field-0.0 (rw name at c.in_ok-history.ensures.ok) (rw (cert, keys) at c.in_err-verdicts.ensures.err))
 
-pub check_all-requires-clause-as_many : goal.check_all-requires-clause-as_many
-check_all-requires-clause-as_many g c =
+pub check_all-found-requires-clause-as_many : goal.check_all-found-requires-clause-as_many
+check_all-found-requires-clause-as_many g c =
     let taken = c.in_ok-verdicts.ensures.ok in
     let same : c.as_slice-4.result.now ≡ c.in_ok-verdicts.verdicts = search rules in
     let keys : c.as_slice-2.result.now ≡ c.in_ok-history.history.keys = search rules in

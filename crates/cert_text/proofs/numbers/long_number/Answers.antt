@@ -1,7 +1,7 @@
 use Rattle.std.proofs.Common.{subst, sym, rules}
 use Rattle.std.specs.Str.Parse.{ParsesUnsigned}
 use Rattle.cert_text.proofs.Numerals.{numeral_is_text, refused_numeral}
-use Rattle.cert_text.proofs.numbers.number_of.Goals as goal
+use Rattle.cert_text.proofs.numbers.long_number.Goals as goal
 
 pub returns-in_default : goal.returns-in_default
 returns-in_default c = absurd (c.in_default.ensures.cases.0 (numeral_is_text c.args.word.now (search rules)))

@@ -1,0 +1,12 @@
+use Rattle.std.proofs.Common.{◌≡◌, ◌≤◌, true, take, length}
+use Rattle.std.specs.List.{list_all}
+use Rattle.std.specs.Char.{is_ascii_digit}
+use Rattle.std.specs.Str.Parse.{digits_value}
+use Rattle.cert_text.proofs.numbers.digits_of.Given as goal
+
+abbrev pub invariant-loop-byte : goal.invariant-loop-byte
+invariant-loop-byte l = record {
+  number : l.number ≡ digits_value 10 (take l.byte-index l.word);
+  digits : list_all is_ascii_digit (take l.byte-index l.word) ≡ true;
+  short : length l.word ≤ 19;
+}
