@@ -7,6 +7,7 @@ ghost use Rattle.cert_text.specs.declared.lines.CertLine.{CertLine};
 ghost use Rattle.cert_text.specs.Texts.{numbers_text, end_words, lines_text};
 ghost use Rattle.cert_text.specs.Certificates.{pair_lines, two_lines, verdict_lines, parts_lines, has_chains, cert_text};
 
+use itoa::Buffer;
 use stale_model::{Bytes, End, Four, Judgement, Memory, Refutation, Try, TwoPart, Verdict};
 use std::alloc::{AllocError, Global};
 
@@ -15,8 +16,10 @@ fn push_numbers(text: &mut String, numbers: &[u32]) -> Result<(), AllocError>
     ensures { OnOk result (string_bytes text.new
         ≡ string_bytes text.old ++ numbers_text numbers.now) }
 {
+    let mut buffer = Buffer::new();
     for number in numbers {
-        write!(text, " {number}")?;
+        text.push_str(" ")?;
+        text.push_str(buffer.format(*number))?;
     }
     Ok(())
 }
