@@ -1,5 +1,5 @@
 -- Laws of recorded runs, which show that the definitions say what they should.
-use Rattle.std.specs.Prelude.{◌≡◌, ℕ, ◌+◌, ◌<◌, ◌≤◌, ◌==◌, ◌⊎◌, not, List, [], length, Some, All, Contains, map, filter, flat_map, slice_get}
+use Rattle.std.specs.Prelude.{◌≡◌, ℕ, ◌+◌, ◌<◌, ◌≤◌, ◌==◌, ◌⊎◌, true, not, List, [], length, Some, All, Contains, map, filter, flat_map, slice_get}
 use mathlib.Core.List.{IsPrefix}
 use Rattle.stale_model.specs.declared.Kind.TheVariants.{Read, Write}
 use Rattle.stale_model.specs.declared.store.Settings.{Settings}
@@ -7,12 +7,45 @@ use Rattle.stale_model.specs.declared.store.Plan.{Plan}
 use Rattle.stale_model.specs.declared.store.Request.{Request}
 use Rattle.stale_model.specs.declared.store.Reply.{Reply}
 use Rattle.stale_model.specs.declared.store.JournalEntry.{JournalEntry}
+use Rattle.stale_model.specs.declared.store.Took.{Took}
 use Rattle.stale_model.specs.declared.store.Entry.{Entry}
 use Rattle.stale_model.specs.Settings.{AreSettings}
-use Rattle.stale_model.specs.Journals.{is_repair, IsJournal}
+use Rattle.stale_model.specs.Journals.{changes, is_repair, nothing, pair_of, held, IsJournal}
 use Rattle.stale_model.specs.Calls.{taken_by, freshest, request_of, sent_to}
 use Rattle.stale_model.specs.Serving.{answered_to, served_after}
 use Rattle.stale_model.specs.RecordedRuns.{served_for, requests_of, IsRecordedRun}
+
+-- x has the greatest rank of those of the list that count, and stands before all others that have it
+pub record IsFirstGreatest {X : Type 0} (Counts : X → Type 0) (rank : X → ℕ) (xs : List X) (x : X) : Type 0 where
+  pub place : ℕ
+  pub there : slice_get xs place ≡ Some x
+  pub counts : Counts x
+  pub greatest : (k : ℕ) (y : X) → slice_get xs k ≡ Some y → Counts y → rank y ≤ rank x
+  pub first : (k : ℕ) (y : X) → k < place → slice_get xs k ≡ Some y → Counts y → rank y < rank x
+
+-- the entry is a write or a repair on this key
+pub record IsChangeOf (key : ℕ) (j : JournalEntry) : Type 0 where
+  pub key_is : j.request.key ≡ key
+  pub change : changes j.request.ask ≡ true
+
+-- no write or repair on the key has a stamp above 0, and nothing is held
+pub record HoldsNothing (key : ℕ) (js : List JournalEntry) : Type 0 where
+  pub none : (j : JournalEntry) → Contains js j → IsChangeOf key j → j.reply.stamp ≡ 0
+  pub pair : held key js ≡ nothing
+
+-- what is held is the pair of the write or repair on the key with the greatest stamp, on a tie of the first
+pub record HoldsFirstGreatest (key : ℕ) (js : List JournalEntry) : Type 0 where
+  pub entry : JournalEntry
+  pub first : IsFirstGreatest (IsChangeOf key) (λ j. j.reply.stamp) js entry
+  pub pair : held key js ≡ pair_of entry
+
+-- what is held of a key is the pair with the greatest stamp, or nothing
+abbrev pub HeldIsFirstGreatest : Type 0
+HeldIsFirstGreatest = (key : ℕ) (js : List JournalEntry) → HoldsNothing key js ⊎ HoldsFirstGreatest key js
+
+-- the freshest of some replies has the greatest stamp, and stands before all others that have it
+abbrev pub FreshestIsFirstGreatest : Type 0
+FreshestIsFirstGreatest = (ts : List Took) → 1 ≤ length ts → IsFirstGreatest (λ _. Unit {0}) (λ t. t.stamp) ts (freshest ts)
 
 -- the calls of a client, numbered 1, 2, 3 and so on
 pub record AreCallsOf (client : ℕ) (es : List Entry) : Type 0 where

@@ -4,7 +4,18 @@
 
 pub mod examples;
 
-ghost use Rattle.run_laws.specs.Laws.{TookStandInJournal, ReadsReturnEarlierWrites, ReplicasDropNone};
+ghost use Rattle.run_laws.specs.Laws.{HeldIsFirstGreatest, FreshestIsFirstGreatest, TookStandInJournal, ReadsReturnEarlierWrites, ReplicasDropNone};
+
+/// What is held of a key is the pair of the write or repair on it with the greatest stamp, on a tie of the first; nothing
+/// where none has a stamp above 0.
+pub fn held_is_first_greatest()
+    ensures { HeldIsFirstGreatest }
+{}
+
+/// The freshest of some replies has the greatest stamp, and is the first that has it.
+pub fn freshest_is_first_greatest()
+    ensures { FreshestIsFirstGreatest }
+{}
 
 /// A reply that a client took of a replica, with the number of one of its calls, stands in the journal of the replica as
 /// the reply to that call.
