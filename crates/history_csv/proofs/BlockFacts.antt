@@ -1,10 +1,20 @@
 -- Entries whose texts stand one behind the other.
-use Rattle.std.proofs.Common.{◌≡◌, ℕ, ◌+◌, ◌≤◌, List, [], ◌∷◌, ◌++◌, All, length, map, take, drop, refl, sym, ◌∙◌, ap, arith, append_assoc, length-append, length-drop}
+use Rattle.std.proofs.Common.{◌≡◌, ℕ, ◌+◌, ◌<◌, ◌≤◌, ◌==◌, Option, Some, None, IfSome, unwrap_or, inl, inr, List, [], ◌∷◌, ◌++◌, All, length, map, take, drop, refl, sym, ◌∙◌, ap, arith, append_assoc, length-append, length-drop}
+use Rattle.std.proofs.lemmas.Bool.{cases_Bool, eqb-true}
 use Rattle.std.proofs.lemmas.List.{append-nil, drop_at, drop-append-le, map_push, take_at, take-append-le}
 use Rattle.std.proofs.lemmas.List.Elements.{All-head, All-push, All-tail, All-weaker}
 use Rattle.history_csv.specs.declared.blocks.Row.{Row}
 use Rattle.history_csv.specs.Entries.{Entry}
-use Rattle.history_csv.specs.Blocks.{StandsIn, entry_shown}
+use Rattle.history_csv.specs.Blocks.{StandsIn, entry_shown, finish_shown}
+use Rattle.history_csv.specs.Numbering.{never}
+
+-- a finish before `never` comes back from its one number
+pub finish-comes-back : (finish : Option ℕ) → IfSome finish (λ tick. tick < never) → finish_shown (unwrap_or finish never) ≡ finish
+finish-comes-back None before = refl
+finish-comes-back (Some tick) before = elim (cases_Bool (tick == never)) [
+  | inl same ↦ let is = eqb-true tick never same in absurd (omega arith)
+  | inr other ↦ rw other refl
+]
 
 -- a piece of a text stays where the text grows
 piece-stays : (text more : List ℕ) (at len : ℕ) → at + len ≤ length text → take len (drop at (text ++ more)) ≡ take len (drop at text)
@@ -30,7 +40,7 @@ piece-here text piece more = rw (drop_at text (piece ++ more) (length text) refl
 
 -- one more row, whose key and value were put to the end of the text
 pub shown-push : (text key value : List ℕ) (rows : List Row) (row : Row) (e : Entry) → All (StandsIn text) rows → row.at ≡ length text → row.key_len ≡ length key → row.value_len ≡ length value
-    → e ≡ record { rec = row.rec; client = row.client; kind = row.kind; key = key; value = value; start = row.start; finish = row.finish; slack = row.slack }
+    → e ≡ record { rec = row.rec; client = row.client; kind = row.kind; key = key; value = value; start = row.start; finish = finish_shown row.finish; slack = row.slack }
     → map (entry_shown ((text ++ key) ++ value)) (rows ++ row ∷ []) ≡ map (entry_shown text) rows ++ e ∷ []
 shown-push text key value rows row e within at key_len value_len is =
     let first : take row.key_len (drop row.at (text ++ (key ++ value))) ≡ key = rw (at, key_len) (piece-here text key value) in

@@ -6,7 +6,8 @@ use Rattle.history_csv.specs.declared.HistoryFault.{HistoryFault}
 use Rattle.history_csv.specs.declared.HistoryFault.TheVariants as fault
 use Rattle.history_csv.specs.declared.header.Columns.{Columns}
 use Rattle.history_csv.proofs.Places.{some_of}
-use Rattle.history_csv.specs.Blocks.{IsShort}
+use Rattle.history_csv.specs.Blocks.{FitsInRow}
+use Rattle.history_csv.specs.Numbering.{never}
 use Rattle.history_csv.specs.Fault.{or_fault, then_next}
 use Rattle.history_csv.specs.Parting.{Rise}
 use Rattle.stale_model.specs.declared.Kind.{Kind}
@@ -19,6 +20,11 @@ pub record IsFinish (start finish : ℕ) : Type 0 where
   pub after : start ≤ finish
   pub tick : finish < 2 ^ 62
 
+-- a finish that is a tick is before `never`
+before-never : (start : ℕ) (finish : Option ℕ) → IfSome finish (IsFinish start) → IfSome finish (λ tick. tick < never)
+before-never start None is = is
+before-never start (Some tick) is = let bound = is.tick in omega arith
+
 -- an entry with this number, whose ticks, slack and texts are within their bounds
 pub record IsSaid (rec : ℕ) (e : Entry) : Type 0 where
   pub numbered : e.rec ≡ rec
@@ -26,7 +32,7 @@ pub record IsSaid (rec : ℕ) (e : Entry) : Type 0 where
   pub start_tick : e.start < 2 ^ 62
   pub finish : IfSome e.finish (IsFinish e.start)
   pub slack : e.slack < 2 ^ 62
-  pub short : IsShort e
+  pub fits : FitsInRow e
 
 ok-of-fault : {X Y : Type 0} (fault : HistoryFault) (o : Option X) (next : X → Result Y HistoryFault) (y : Y) → or_fault fault o next ≡ Ok y → (x : X) × (o ≡ Some x) × (next x ≡ Ok y)
 ok-of-fault fault None next y e = cc
@@ -111,13 +117,18 @@ entry-said columns rec fields e said =
     let (slack, slack_is, s8) = ok-of-fault (fault.Slack rec) (slack_at columns.slack fields) _ e s7 in
     let same = ok_of _ e s8 in
     let ticks = tick-bounds (field fields columns.start) start start_is in
+    let ends = finish-after start (field fields columns.finish) tick finish tick_is finish_is in
     rw (← same) (record {
       numbered = refl;
       starts = ticks.0;
       start_tick = ticks.1;
-      finish = finish-after start (field fields columns.finish) tick finish tick_is finish_is;
+      finish = ends;
       slack = slack-at-bound columns.slack fields slack slack_is;
-      short = record { key = text-short 1 256 (text columns.key) key key_is; value = value-short kind (text columns.value) value value_is };
+      fits = record {
+        key = text-short 1 256 (text columns.key) key key_is;
+        value = value-short kind (text columns.value) value value_is;
+        finish = before-never start finish ends;
+      };
     })
 
 -- entries numbered from rec on

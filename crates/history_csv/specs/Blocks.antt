@@ -1,12 +1,18 @@
 -- What serves the code alone: entries whose texts stand one behind the other.
-use Rattle.std.specs.Prelude.{ℕ, ◌+◌, ◌≤◌, List, length, take, drop}
+use Rattle.std.specs.Prelude.{ℕ, ◌+◌, ◌<◌, ◌≤◌, ◌==◌, if◌then◌else◌, List, length, take, drop, Option, Some, None, IfSome}
 use Rattle.history_csv.specs.declared.blocks.Row.{Row}
 use Rattle.history_csv.specs.Entries.{Entry}
+use Rattle.history_csv.specs.Numbering.{never}
 
--- an entry whose key and value have at most 256 bytes
-pub record IsShort (entry : Entry) : Type 0 where
+-- an entry whose key and value have at most 256 bytes, and whose finish is before `never`
+pub record FitsInRow (entry : Entry) : Type 0 where
   pub key : length entry.key ≤ 256
   pub value : length entry.value ≤ 256
+  pub finish : IfSome entry.finish (λ tick. tick < never)
+
+-- the finish that a row says by one number
+abbrev pub finish_shown : ℕ → Option ℕ
+finish_shown tick = if tick == never then None else Some tick
 
 -- the key and the value of a row stand within a text
 abbrev pub StandsIn : List ℕ → Row → Type 0
@@ -21,6 +27,6 @@ entry_shown text row = record {
   key = take row.key_len (drop row.at text);
   value = take row.value_len (drop (row.at + row.key_len) text);
   start = row.start;
-  finish = row.finish;
+  finish = finish_shown row.finish;
   slack = row.slack;
 }

@@ -1,24 +1,46 @@
 //! Entries put one behind the other, with their texts.
-ghost use Rattle.std.specs.Prelude.{◌≡◌, ◌<◌, ◌++◌, [], ◌∷◌, Some, length, slice_get, OnOk};
-ghost use Rattle.history_csv.specs.Blocks.{IsShort};
+ghost use Rattle.std.specs.Prelude.{◌≡◌, ◌<◌, ◌++◌, [], ◌∷◌, Some, length, slice_get, OnOk, IfOk};
+ghost use Rattle.history_csv.specs.Blocks.{FitsInRow, finish_shown};
 
 use crate::entry::Entry;
+use crate::numbering::NEVER;
 use stale_model::{Kind, Memory};
 use std::alloc::Global;
 use std::marker::Model;
 
-// An entry whose key and value stand in a text, the value behind the key.
+// An entry whose key and value stand in a text, the value behind the key. It takes 48 bytes: fields lie
+// as they are written here, so wide ones stand first, and the finish is `NEVER` where there is none.
 #[derive(Clone, Copy)]
 struct Row {
-    rec: u32,
-    client: u32,
-    kind: Kind,
     start: u64,
-    finish: Option<u64>,
+    finish: u64,
     slack: u64,
     at: usize,
+    rec: u32,
+    client: u32,
     key_len: u16,
     value_len: u16,
+    kind: Kind,
+}
+
+impl Row {
+    // The finish, where there is one.
+    fn finish_if_any(&self) -> Option<u64>
+        ensures { result ≡ finish_shown self.now.finish }
+    {
+        if self.finish == NEVER {
+            None
+        } else {
+            Some(self.finish)
+        }
+    }
+}
+
+/// How many rows, and how many bytes of text, a block has room for from the first.
+#[derive(Clone, Copy)]
+pub(crate) struct Room {
+    pub(crate) rows: usize,
+    pub(crate) text: usize,
 }
 
 /// Some entries. Contracts see them as a list.
@@ -42,14 +64,17 @@ impl Model for Block {
 }
 
 impl Block {
-    /// No entries.
-    pub(crate) fn new(alloc: Global) -> Block
-        ensures { result ≡ [] }
+    /// No entries, with room for so many rows and so many bytes of text.
+    pub(crate) fn new(alloc: Global, room: Room) -> Result<Block, Memory>
+        ensures { IfOk result (λ block. block ≡ []) }
     {
-        Block {
-            rows: Vec::new(alloc),
-            text: Vec::new(alloc),
-        }
+        let Ok(rows) = Vec::with_capacity(alloc, room.rows) else {
+            return Err(Memory);
+        };
+        let Ok(text) = Vec::with_capacity(alloc, room.text) else {
+            return Err(Memory);
+        };
+        Ok(Block { rows, text })
     }
 
     /// How many entries there are.
@@ -61,7 +86,7 @@ impl Block {
 
     /// Puts a copy of an entry to the end.
     pub(crate) fn push(&mut self, entry: &Entry) -> Result<(), Memory>
-        requires { IsShort entry.now }
+        requires { FitsInRow entry.now }
         ensures { OnOk result (self.new ≡ self.old ++ entry.now ∷ []) }
     {
         let at = self.text.len();
@@ -72,15 +97,15 @@ impl Block {
             return Err(Memory);
         };
         let row = Row {
-            rec: entry.rec,
-            client: entry.client,
-            kind: entry.kind,
             start: entry.start,
-            finish: entry.finish,
+            finish: entry.finish.unwrap_or(NEVER),
             slack: entry.slack,
             at,
+            rec: entry.rec,
+            client: entry.client,
             key_len: entry.key.len() as u16,
             value_len: entry.value.len() as u16,
+            kind: entry.kind,
         };
         let Ok(()) = self.rows.push(row) else {
             return Err(Memory);
@@ -104,7 +129,7 @@ impl Block {
             key: &text[row.at..middle],
             value: &text[middle..end],
             start: row.start,
-            finish: row.finish,
+            finish: row.finish_if_any(),
             slack: row.slack,
         }
     }

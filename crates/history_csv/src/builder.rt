@@ -2,7 +2,7 @@
 ghost use Rattle.std.specs.Prelude.{◌≡◌, ◌<◌, ◌≤◌, ◌++◌, [], ◌∷◌, List, length, OnOk, IfOk};
 ghost use Rattle.history_csv.specs.Entries.{Entry, most_records};
 ghost use Rattle.history_csv.specs.Numbering.{history_of};
-ghost use Rattle.history_csv.specs.Blocks.{IsShort};
+ghost use Rattle.history_csv.specs.Blocks.{FitsInRow};
 ghost use Rattle.history_csv.specs.Parting.{Rise};
 ghost use Rattle.history_csv.specs.Made.{Makes};
 
@@ -63,12 +63,16 @@ pub(crate) enum Builder {
 }
 
 impl Builder {
-    /// A history with no entries yet.
-    pub(crate) fn new(alloc: Global, has_many_keys: bool) -> Result<Builder, Memory>
+    /// A history with no entries yet, with room for those of a file of so many bytes if it has many keys.
+    pub(crate) fn new(
+        alloc: Global,
+        has_many_keys: bool,
+        file_bytes: usize,
+    ) -> Result<Builder, Memory>
         ensures { IfOk result (λ builder. Makes builder []) }
     {
         if has_many_keys {
-            Ok(Builder::ByParts(PartedBuilder::new(alloc)?))
+            Ok(Builder::ByParts(PartedBuilder::new(alloc, file_bytes)?))
         } else {
             Ok(Builder::ByKeys(HistoryBuilder::new(alloc)))
         }
@@ -76,7 +80,7 @@ impl Builder {
 
     /// Takes one more entry.
     pub(crate) fn add(&mut self, alloc: Global, entry: &Entry) -> Result<(), Memory>
-        requires short { IsShort entry.now }
+        requires fits { FitsInRow entry.now }
         requires made { (entries : List Entry) × Makes self.old entries
             × (length entries < most_records) }
         ensures { OnOk result ((entries : List Entry) → Makes self.old entries

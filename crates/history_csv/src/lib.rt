@@ -106,10 +106,11 @@ fn take_records(
     }
 }
 
-// Reads all records, the first of which is the header.
+// Reads all records, the first of which is the header, of a file of so many bytes.
 fn read_records(
     alloc: Global,
     has_many_keys: bool,
+    file_bytes: usize,
     reader: &mut Reader<&[u8]>,
     row: &mut ByteRecord,
 ) -> Result<History, HistoryFault>
@@ -123,7 +124,7 @@ fn read_records(
         return Err(HistoryFault::NoHeader);
     }
     let columns = columns_of(row)?;
-    let mut history = Builder::new(alloc, has_many_keys)?;
+    let mut history = Builder::new(alloc, has_many_keys, file_bytes)?;
     take_records(&mut history, alloc, &columns, reader, row)?;
     Ok(history.finish(alloc)?)
 }
@@ -153,7 +154,8 @@ pub fn read_history(alloc: Global, bytes: &[u8]) -> Result<History, HistoryFault
 {
     let mut reader = reader_of(alloc, bytes);
     let mut row = ByteRecord::new(alloc);
-    read_records(alloc, has_many_keys(alloc, bytes), &mut reader, &mut row)
+    let has_many_keys = has_many_keys(alloc, bytes);
+    read_records(alloc, has_many_keys, bytes.len(), &mut reader, &mut row)
 }
 
 #[cfg(test)]

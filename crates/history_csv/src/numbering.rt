@@ -12,8 +12,8 @@ use stale_model::{Bytes, History, KeyOps, List, Memory, Op};
 use std::alloc::Global;
 use std::marker::Model;
 
-// The tick at which a write that never finished counts as finished.
-const NEVER: u64 = 9_223_372_036_854_775_808;
+/// The tick at which a write that never finished counts as finished. It is no tick of a history file.
+pub(crate) const NEVER: u64 = 9_223_372_036_854_775_808;
 
 /// A copy of a text.
 pub(crate) fn copy_of(alloc: Global, text: &[u8]) -> Result<Vec<u8>, Memory>

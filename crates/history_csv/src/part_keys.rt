@@ -21,6 +21,9 @@ const FEW: usize = 32;
 // At most so much room is made at once for the values of a key.
 const MOST_ROOM: usize = 2048;
 
+// At most so much room is made at once for the keys of a part.
+const KEYS_ROOM: usize = 512;
+
 // The values of a key so far.
 #[derive(Drop)]
 enum Values<'a> {
@@ -244,7 +247,9 @@ fn names_of<'a>(alloc: Global, block: &'a Block) -> Result<Names<'a>, Memory>
     ensures places { IfOk result (λ found.
         found.places.items ≡ map (place_in (distinct (names_in block.now))) block.now) }
 {
-    let mut names = IndexSet::new(alloc);
+    let Ok(mut names) = IndexSet::with_capacity(alloc, block.len().min(KEYS_ROOM)) else {
+        return Err(Memory);
+    };
     let Ok(mut places) = Vec::with_capacity(alloc, block.len()) else {
         return Err(Memory);
     };

@@ -8,11 +8,12 @@ ghost use Rattle.std.specs.List.Sorted.{IsPermutation, IsNonDecreasingBy};
 ghost use Rattle.stale_model.specs.declared.KeyOps.{KeyOps};
 ghost use Rattle.history_csv.specs.Entries.{Entry, most_records};
 ghost use Rattle.history_csv.specs.Numbering.{history_of, keys_of};
-ghost use Rattle.history_csv.specs.Blocks.{IsShort};
+ghost use Rattle.history_csv.specs.Blocks.{FitsInRow};
 ghost use Rattle.history_csv.specs.Parting.{Rise, part_of, part_count, parts_of, with_first};
 ghost use Rattle.history_csv.specs.Parted.{IsParted};
 
-use crate::blocks::Block;
+use crate::MOST_RECORDS;
+use crate::blocks::{Block, Room};
 use crate::entry::Entry;
 use crate::part_keys::take_apart;
 use stale_model::{History, KeyOps, List, Memory};
@@ -21,6 +22,9 @@ use std::hash::{FoldHasher, Hasher};
 
 // How many parts there are.
 const PARTS: usize = 128;
+
+// Room is made at once for at most so many bytes of texts, in all parts together.
+const MOST_TEXT: usize = 33_554_432;
 
 // How many hashes differ in their lower half alone.
 const LOWER_HALF: u64 = 4_294_967_296;
@@ -35,15 +39,30 @@ fn part_of(name: &[u8]) -> usize
     (hasher.finish() / LOWER_HALF % 128) as usize
 }
 
-// Parts with no entries.
-fn empty_parts(alloc: Global) -> Result<Vec<Block>, Memory>
+// A part's share of a whole, and an eighth more.
+fn share(whole: usize) -> usize {
+    whole / PARTS + whole / PARTS / 8
+}
+
+// Room for what a part of a file has on average and an eighth more, by a guess: a record has at least 28
+// bytes, and at most half of a file is keys and values. Where a part has more, it grows.
+fn room_of_part(file_bytes: usize) -> Room {
+    Room {
+        rows: share((file_bytes / 28).min(MOST_RECORDS as usize)),
+        text: share((file_bytes / 2).min(MOST_TEXT)),
+    }
+}
+
+// Parts with no entries, with room for those of a file of so many bytes.
+fn empty_parts(alloc: Global, file_bytes: usize) -> Result<Vec<Block>, Memory>
     ensures { IfOk result (λ parts. parts.items ≡ parts_of []) }
 {
     let Ok(mut parts) = Vec::with_capacity(alloc, PARTS) else {
         return Err(Memory);
     };
+    let room = room_of_part(file_bytes);
     for _part in 0..PARTS {
-        let Ok(()) = parts.push(Block::new(alloc)) else {
+        let Ok(()) = parts.push(Block::new(alloc, room)?) else {
             return Err(Memory);
         };
     }
@@ -52,7 +71,7 @@ fn empty_parts(alloc: Global) -> Result<Vec<Block>, Memory>
 
 // Puts an entry into the part of its key.
 fn deal(parts: &mut Vec<Block>, entry: &Entry) -> Result<(), Memory>
-    requires short { IsShort entry.now }
+    requires fits { FitsInRow entry.now }
     requires parts { (entries : List Entry) × (parts.old.items ≡ parts_of entries) }
     ensures { OnOk result ((entries : List Entry) → parts.old.items ≡ parts_of entries
         → parts.new.items ≡ parts_of (entries ++ entry.now ∷ [])) }
@@ -108,12 +127,12 @@ pub(crate) struct PartedBuilder {
 }
 
 impl PartedBuilder {
-    /// A history with no entries yet.
-    pub(crate) fn new(alloc: Global) -> Result<PartedBuilder, Memory>
+    /// A history with no entries yet, with room for those of a file of so many bytes.
+    pub(crate) fn new(alloc: Global, file_bytes: usize) -> Result<PartedBuilder, Memory>
         ensures { IfOk result (λ parted. IsParted parted []) }
     {
         Ok(PartedBuilder {
-            parts: empty_parts(alloc)?,
+            parts: empty_parts(alloc, file_bytes)?,
             records: 0,
             skipped: 0,
         })
@@ -121,7 +140,7 @@ impl PartedBuilder {
 
     /// Takes one more entry.
     pub(crate) fn add(&mut self, entry: &Entry) -> Result<(), Memory>
-        requires short { IsShort entry.now }
+        requires fits { FitsInRow entry.now }
         requires parted { (entries : List Entry) × IsParted self.old entries
             × (length entries < most_records) }
         ensures { OnOk result ((entries : List Entry) → IsParted self.old entries

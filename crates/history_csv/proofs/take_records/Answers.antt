@@ -11,9 +11,9 @@ use Rattle.history_csv.proofs.EntryFacts.{entry-said}
 use Rattle.history_csv.proofs.ReadSteps.{read-fault, read-many, read-more, read-start, took-well}
 use Rattle.history_csv.proofs.take_records.Goals as goal
 
-pub add-requires-clause-short : goal.add-requires-clause-short
-add-requires-clause-short c =
-    (entry-said c.args.columns.now c.loop-rec.rec (fields_of c.read_next.new.row) c.in_ok-entry.entry (sym c.in_ok-entry.ensures)).short
+pub add-requires-clause-fits : goal.add-requires-clause-fits
+add-requires-clause-fits c =
+    (entry-said c.args.columns.now c.loop-rec.rec (fields_of c.read_next.new.row) c.in_ok-entry.entry (sym c.in_ok-entry.ensures)).fits
 
 pub loop-rec-init : goal.loop-rec-init
 loop-rec-init c = record {
