@@ -1,8 +1,7 @@
 -- Tables of clusters that take in one operation after another.
 use Rattle.std.proofs.Common.{◌≡◌, ◌≢◌, ℕ, zero, suc, ◌+◌, ◌≤◌, List, [], ◌∷◌, ◌++◌, Option, Some, None, length, take, set, refl, sym, ◌∙◌, ap, inl, inr, subst, arith}
 use Rattle.std.specs.Prelude.{slice_get, Contains}
-use Rattle.std.proofs.lemmas.Bool.{cases_eq}
-use Rattle.std.proofs.lemmas.Option.{slice_get_within, same_Some}
+use Rattle.std.proofs.lemmas.Option.{slice_get_within}
 use Rattle.std.proofs.lemmas.List.{length-set, take_all}
 use Rattle.std.proofs.lemmas.List.Elements.{Contains-push_cases, Contains-append_left}
 use Rattle.stale_model.specs.declared.Op.{Op}
@@ -129,19 +128,6 @@ module _ (all : List Op) (values : ℕ) where
         IsSlot-follows (IsSeen (take i ops)) (IsSeen (take (i + 1) ops)) all value slot
         (λ w c only is. seen_next w c (ClusterOf-other (w ∷ take i ops) a w c (λ e. other (sym only.write.value_is ∙ sym e)) is))
         (h.slots value slot there)
-
-    -- an operation whose value nothing wrote
-    pub seen_stray : slice_get table a.value ≡ Some None → IsTable (IsSeen (take (i + 1) ops)) all values table
-    seen_stray empty = record {
-      size = h.size;
-      slots = λ value slot there. elim (cases_eq value a.value) [
-        | inl same ↦
-            let e : Some slot ≡ Some None = sym there ∙ ap (slice_get table) same ∙ empty in
-            subst (λ (s : Option Cluster). IsSlot (IsSeen (take (i + 1) ops)) all value s) (sym (same_Some slot None e))
-            (subst (λ (v : ℕ). IsSlot (IsSeen (take (i + 1) ops)) all v None) (sym same) (h.slots a.value None empty))
-        | inr other ↦ seen_other value slot other there
-      ];
-    }
 
     -- an operation that its cluster takes in
     pub seen_more : (c grown : Cluster) → slice_get table a.value ≡ Some (Some c)

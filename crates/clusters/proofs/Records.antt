@@ -10,9 +10,9 @@ use Rattle.std.proofs.lemmas.List.Kept.{AllPairs-from_increasing, AllPairs-cons}
 use Rattle.stale_model.specs.declared.Op.{Op}
 use Rattle.stale_model.specs.declared.KeyOps.{KeyOps}
 use Rattle.stale_model.specs.declared.Kind.TheVariants.{Read}
-use Rattle.stale_model.specs.Operations.{IsRead, initial_write, operations, records_of}
+use Rattle.stale_model.specs.Operations.{initial_write, operations, records_of}
 use Rattle.stale_model.specs.Valid.{IsValidOp, IsValidKey}
-use Rattle.stale_model.specs.Faults.{IsReadIn, IsLeastRecord}
+use Rattle.stale_model.specs.Faults.{IsLeastRecord}
 
 -- each record is less than all later ones
 abbrev pub IsRising : List Op → Type 0
@@ -102,6 +102,6 @@ here items key i valid same within = record {
   valid = subst (λ (xs : List Op). IsValidOp (length key.values) (item xs i)) (sym same) (valid.ops i past_end (let n = ap length same in omega arith));
 }
 
--- where it is a read, it is one among all operations of the key
-pub read_here : (key : KeyOps) (i : ℕ) (a : Op) → IsAt key i a → IsRead a → IsReadIn (operations key) a
-read_here key i a h read = record { there = (suc i, (let l = slice_get_within key.ops i a h.at in omega arith), get_or_from_slice_get key.ops i a a h.at); kind = read }
+-- it is one among all operations of the key
+pub there_is : (key : KeyOps) (i : ℕ) (a : Op) → IsAt key i a → Contains (operations key) a
+there_is key i a h = (suc i, (let l = slice_get_within key.ops i a h.at in omega arith), get_or_from_slice_get key.ops i a a h.at)

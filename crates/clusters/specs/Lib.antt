@@ -1,3 +1,4 @@
 pub mod Sorting
 pub mod Laws
 pub mod Tables
+pub mod Gathering

@@ -1,13 +1,13 @@
 //! Sorts the operations of a key into clusters, or names the fault of the key.
 #![tactic(auto)]
 
-ghost use Rattle.std.specs.Prelude.{◌≡◌, ◌+◌, ◌^◌, ◌<◌, List, [], ◌∷◌, ◌++◌, length, IfOk, MatchOption};
+ghost use Rattle.std.specs.Prelude.{◌≡◌, ◌+◌, ◌^◌, ◌<◌, List, [], ◌∷◌, ◌++◌, length, IfOk};
 ghost use Rattle.std.specs.List.{filter_map};
 ghost use Rattle.stale_model.specs.Valid.{IsValidKey};
 ghost use Rattle.stale_model.specs.Operations.{initial_write, operations, latest_finish};
-ghost use Rattle.stale_model.specs.Faults.{IsLeastRecord, HasNone, IsUnmatched, IsEarly};
 ghost use Rattle.stale_model.specs.Clusters.{IsLeastFinish, AreReadsOf, IsClusterOf, AreClusters};
 ghost use Rattle.clusters.specs.Tables.{lone_cluster, IsTable, IsLone, AreWrites, IsWriteTable, IsClusterTable, cluster_in};
+ghost use Rattle.clusters.specs.Gathering.{IsEarlyWith, IsGathering};
 ghost use Rattle.clusters.specs.Sorting.{IsSorting};
 ghost use Rattle.clusters.specs.Laws.{SortingsAreOne, SortingsExist, ClustersAreFew};
 
@@ -42,12 +42,12 @@ pub fn sort_key(alloc: Global, key: &KeyOps) -> Result<Sorted, Memory>
         Writes::Duplicate { rec } => return Ok(Sorted::Duplicate { rec }),
         Writes::Table(table) => table,
     };
-    gather(&mut table, key);
-    if let Some(rec) = first_unmatched(&table, key) {
-        return Ok(Sorted::Unmatched { rec });
-    }
+    let early = match gather(&mut table, key) {
+        Gathered::Unmatched { rec } => return Ok(Sorted::Unmatched { rec }),
+        Gathered::Matched { early } => early,
+    };
     let clusters = clusters_of(alloc, &table, key)?;
-    match first_early(&table, key) {
+    match early {
         Some(rec) => Ok(Sorted::Early { rec, clusters }),
         None => Ok(Sorted::Clear(clusters)),
     }
@@ -175,58 +175,45 @@ fn with_operation(cluster: &Cluster, op: &Op) -> Cluster
     }
 }
 
-// Takes the operations of a key into the clusters of their values.
-fn gather(table: &mut [Option<Cluster>], key: &KeyOps)
+// What the operations of a key show as they are taken into the clusters of their values.
+#[derive(Drop)]
+enum Gathered {
+    /// The record is the least one of a read whose value no record writes.
+    Unmatched { rec: u32 },
+    /// A record writes the value of each read. `early` is the least record of a read that has certainly
+    /// finished before its write starts, if there is one.
+    Matched { early: Option<u32> },
+}
+
+// The first early read so far, with one more operation of a cluster.
+fn with_early(early: Option<u32>, cluster: &Cluster, op: &Op) -> Option<u32>
+    requires { latest_finish op.now < 2 ^ 64 }
+    ensures { IsEarlyWith early cluster.now op.now result }
+{
+    match (early, op.kind) {
+        (Some(rec), _) => Some(rec),
+        (None, Kind::Write) => None,
+        (None, Kind::Read) => (op.latest_finish() < cluster.w).then_some(op.rec),
+    }
+}
+
+// Takes the operations of a key into the clusters of their values, up to the first read whose value
+// has no cluster, and tells the first early read.
+fn gather(table: &mut [Option<Cluster>], key: &KeyOps) -> Gathered
     requires valid { IsValidKey key.now }
     requires writes { IsWriteTable key.now table.old }
-    ensures { IsClusterTable key.now table.new }
+    ensures { IsGathering key.now table.new result }
 {
+    let mut early = None;
     for op in key.ops.as_slice() {
         let value = op.value as usize;
-        if let Some(cluster) = table[value] {
-            table[value] = Some(with_operation(&cluster, op));
-        }
+        let Some(cluster) = table[value] else {
+            return Gathered::Unmatched { rec: op.rec };
+        };
+        early = with_early(early, &cluster, op);
+        table[value] = Some(with_operation(&cluster, op));
     }
-}
-
-// The first read whose value no operation wrote.
-fn first_unmatched(table: &[Option<Cluster>], key: &KeyOps) -> Option<u32>
-    requires valid { IsValidKey key.now }
-    requires clusters { IsClusterTable key.now table.now }
-    ensures { MatchOption result
-        (HasNone (IsUnmatched (operations key.now)))
-        (IsLeastRecord (IsUnmatched (operations key.now))) }
-{
-    for op in key.ops.as_slice() {
-        match (op.kind, table[op.value as usize]) {
-            (Kind::Read, None) => return Some(op.rec),
-            (Kind::Read, Some(_)) => {}
-            (Kind::Write, _) => {}
-        }
-    }
-    None
-}
-
-// The first read that has certainly finished before its write starts.
-fn first_early(table: &[Option<Cluster>], key: &KeyOps) -> Option<u32>
-    requires valid { IsValidKey key.now }
-    requires clusters { IsClusterTable key.now table.now }
-    ensures { MatchOption result
-        (HasNone (IsEarly (operations key.now)))
-        (IsLeastRecord (IsEarly (operations key.now))) }
-{
-    for op in key.ops.as_slice() {
-        match (op.kind, table[op.value as usize]) {
-            (Kind::Read, Some(cluster)) => {
-                if op.latest_finish() < cluster.w {
-                    return Some(op.rec);
-                }
-            }
-            (Kind::Read, None) => {}
-            (Kind::Write, _) => {}
-        }
-    }
-    None
+    Gathered::Matched { early }
 }
 
 // The cluster of an operation, if it is a write.
@@ -239,7 +226,7 @@ fn cluster_in(table: &[Option<Cluster>], op: &Op) -> Option<Cluster>
     }
 }
 
-// The clusters of a table in the order of the writes.
+// The clusters of a table in the order of the writes, in a list with room for one of each slot.
 fn clusters_in_order(
     alloc: Global,
     table: &[Option<Cluster>],
@@ -248,9 +235,9 @@ fn clusters_in_order(
     ensures { IfOk result
         (λ clusters. clusters.items ≡ filter_map (cluster_in table.now) (operations key.now)) }
 {
-    key.operations()
-        .filter_map(|op| cluster_in(table, &op))
-        .collect(alloc)
+    let mut clusters = Vec::with_capacity(alloc, table.len())?;
+    clusters.extend(key.operations().filter_map(|op| cluster_in(table, &op)))?;
+    Ok(clusters)
 }
 
 // The clusters of a key in the order of their writes.
