@@ -3,3 +3,4 @@ pub mod Crossings
 pub mod Greatest
 pub mod Pairs
 pub mod Existence
+pub mod Placed

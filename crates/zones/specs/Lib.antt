@@ -1,3 +1,4 @@
 pub mod Conflicts
 pub mod Sweeps
 pub mod Laws
+pub mod Standings

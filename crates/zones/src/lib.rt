@@ -4,15 +4,17 @@
 #![tactic(auto)]
 
 ghost use Rattle.std.specs.Prelude.{◌≡◌, ◌<◌, ◌↔◌, IsTrue, IfOk, MatchOption};
-ghost use Rattle.stale_model.specs.Zones.{last_start, AreInConflict, zone_order, IsZoneOrder, HasNoCrossing, IsPair};
+ghost use Rattle.stale_model.specs.Zones.{last_start, AreInConflict, zone_order, HasNoCrossing, IsPair};
 ghost use Rattle.stale_model.specs.Clusters.{writes_of, WriteRecordsDiffer};
 ghost use Rattle.zones.specs.Sweeps.{IsLaterOfPair, IsClusterSweep, IsSweep};
 
 mod laws;
+mod standings;
 
 pub use laws::{pairs_exist, zone_orders_exist};
 use stale_model::{Cluster, List, Memory};
-use std::alloc::{AllocError, Global};
+use standings::{in_zone_order, standing_at, standing_cmp};
+use std::alloc::Global;
 use std::cmp::Ordering;
 
 /// What a sweep over clusters finds, by write records.
@@ -48,11 +50,7 @@ pub fn last_start(d: u64, cluster: &Cluster) -> u64
 pub fn zone_cmp(d: u64, a: &Cluster, b: &Cluster) -> Ordering
     ensures { result ≡ zone_order d a.now b.now }
 {
-    let (a_last, b_last) = (last_start(d, a), last_start(d, b));
-    a.f.min(a_last)
-        .cmp(&b.f.min(b_last))
-        .then((a.f < a_last).cmp(&(b.f < b_last)))
-        .then(a.write.cmp(&b.write))
+    standing_cmp(&standing_at(d, 0, a), &standing_at(d, 0, b))
 }
 
 /// Whether two clusters are in conflict at d: some operation of each precedes one of the other.
@@ -60,16 +58,6 @@ pub fn conflict_at(d: u64, a: &Cluster, b: &Cluster) -> bool
     ensures { IsTrue result ↔ AreInConflict d a.now b.now }
 {
     a.f < last_start(d, b) && b.f < last_start(d, a)
-}
-
-// The clusters in the zone order at d. In the order of records they are nearly sorted, which a stable
-// sort makes use of.
-fn in_zone_order(alloc: Global, d: u64, clusters: &[Cluster]) -> Result<Vec<Cluster>, AllocError>
-    ensures { IfOk result (λ zones. IsZoneOrder d clusters.now zones.items) }
-{
-    let mut zones = Vec::from_slice(alloc, clusters)?;
-    zones.sort_by(|a, b| zone_cmp(d, a, b))?;
-    Ok(zones)
 }
 
 // The first zone with an operation that precedes one of an earlier zone at d.
