@@ -24,7 +24,7 @@ pub mod LinksRing
 pub mod LinksMade
 pub mod ListsKept
 pub mod TotalOrders
-pub mod NumberedPlaces
+pub mod KeyedPlaces
 pub mod SortedPlaces
 -- The clusters at places that are left.
 pub mod LeftPlaces

@@ -1,4 +1,5 @@
 pub mod Links
 pub mod Lists
+pub mod Keys
 pub mod TwoLaws
 pub mod Steps

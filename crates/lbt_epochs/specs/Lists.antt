@@ -1,5 +1,5 @@
 -- Clusters by their places in three orders, and those of them that are placed.
-use Rattle.std.specs.Prelude.{ℕ, ◌==◌, not, Bool, true, List, filter, map, get_or, length, None, is_some}
+use Rattle.std.specs.Prelude.{ℕ, ◌==◌, not, Bool, true, List, filter, get_or, length, None, is_some}
 use Rattle.std.specs.List.{list_any, range_with_len}
 use Rattle.std.specs.List.Sorted.{IsPermutation, IsSorted}
 use Rattle.std.specs.declared.cmp.Ordering.{Ordering}
@@ -30,10 +30,6 @@ no_cluster = record { write = 0; f = 0; w = 0; s = None; first = 0; last = 0 }
 -- the cluster at a place
 abbrev pub cluster_at : List Cluster → ℕ → Cluster
 cluster_at clusters at = get_or clusters at no_cluster
-
--- the clusters, each behind its place
-abbrev pub numbered : List Cluster → List (ℕ × Cluster)
-numbered clusters = map (λ at. (at, cluster_at clusters at)) (range_with_len 0 (length clusters))
 
 -- writes stand by falling start, then by rising record
 abbrev pub late_write_order : Cluster → Cluster → Ordering

@@ -4,6 +4,7 @@
 mod candidates;
 mod chains;
 mod epochs;
+mod keys;
 mod links;
 mod lists;
 mod rounds;

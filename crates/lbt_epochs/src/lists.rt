@@ -1,13 +1,15 @@
 //! The places of clusters in three orders, from which places are taken and put back.
-ghost use Rattle.std.specs.Prelude.{◌≡◌, ℕ, ◌+◌, ◌-◌, ◌^◌, ◌<◌, true, [], ◌∷◌, ◌++◌, length, map, take, slice_get, Contains, is_some, filter, IfOk};
+ghost use Rattle.std.specs.Prelude.{◌≡◌, ℕ, ◌+◌, ◌-◌, ◌^◌, ◌<◌, true, [], ◌∷◌, ◌++◌, length, take, slice_get, Contains, is_some, IfOk};
 ghost use Rattle.stale_model.specs.Chains.{candidate_order};
 ghost use Rattle.stale_model.specs.Orders.{StandsAt};
-ghost use Rattle.lbt_epochs.specs.Lists.{with_placed, left, cluster_at, numbered, late_write_order, late_read_order, ArePlacesBy, AreListsOf};
+ghost use Rattle.lbt_epochs.specs.Lists.{with_placed, left, cluster_at, late_write_order, late_read_order, ArePlacesBy, AreListsOf};
 
+use crate::keys::{
+    Key, falling_cmp, fill_by_finish, fill_by_reads, fill_by_write, late_cmp, places_in,
+};
 use crate::links::Links;
 use stale_model::{Cluster, Memory};
 use std::alloc::{AllocError, Global};
-use std::cmp::Ordering;
 use std::marker::Model;
 
 /// The cluster at a place.
@@ -18,87 +20,49 @@ pub(crate) fn cluster_at(clusters: &[Cluster], at: u32) -> Cluster
     clusters[at as usize]
 }
 
-// Candidates stand by falling f, then by falling record of the write.
-fn candidate_cmp(a: &Cluster, b: &Cluster) -> Ordering
-    ensures { result ≡ candidate_order a.now b.now }
-{
-    b.f.cmp(&a.f).then(b.write.cmp(&a.write))
-}
-
-// Writes stand by falling start, then by rising record.
-fn late_write_cmp(a: &Cluster, b: &Cluster) -> Ordering
-    ensures { result ≡ late_write_order a.now b.now }
-{
-    b.w.cmp(&a.w).then(a.write.cmp(&b.write))
-}
-
-// Reads stand by falling start of the last read, then by rising record of the write.
-fn late_read_cmp(a: &Cluster, b: &Cluster) -> Ordering
-    ensures { result ≡ late_read_order a.now b.now }
-{
-    let by_start = b.reads_start().cmp(&a.reads_start());
-    by_start.then(a.write.cmp(&b.write))
-}
-
-// The clusters, each behind its place.
-fn numbered(alloc: Global, clusters: &[Cluster]) -> Result<Vec<(u32, Cluster)>, AllocError>
-    requires few { length clusters.now < 2 ^ 32 }
-    ensures { IfOk result (λ all. all.items ≡ numbered clusters.now) }
-{
-    (0..clusters.len() as u32)
-        .map(|at| (at, cluster_at(clusters, at)))
-        .collect(alloc)
-}
-
-// Those of them that have reads.
-fn numbered_reads(alloc: Global, clusters: &[Cluster]) -> Result<Vec<(u32, Cluster)>, AllocError>
-    requires few { length clusters.now < 2 ^ 32 }
-    ensures { let of_all = numbered clusters.now in
-        IfOk result (λ all. all.items ≡ filter (λ one. is_some one.1.s) of_all) }
-{
-    let mut all = numbered(alloc, clusters)?;
-    all.retain(|one| one.1.s.is_some());
-    Ok(all)
-}
-
-// The places alone.
-fn places_in(alloc: Global, all: &[(u32, Cluster)]) -> Result<Vec<u32>, AllocError>
-    ensures { IfOk result (λ places. places.items ≡ map (λ one. one.0) all.now) }
-{
-    all.iter().map(|one| one.0).collect(alloc)
-}
-
 // The places of the clusters in the order of candidates.
-fn candidate_places(alloc: Global, clusters: &[Cluster]) -> Result<Vec<u32>, AllocError>
+fn candidate_places(
+    alloc: Global,
+    keys: &mut Vec<Key>,
+    clusters: &[Cluster],
+) -> Result<Vec<u32>, AllocError>
     requires few { length clusters.now < 2 ^ 32 }
     ensures { let are = ArePlacesBy clusters.now (λ c. true) candidate_order in
         IfOk result (λ places. are places.items) }
 {
-    let mut all = numbered(alloc, clusters)?;
-    all.sort_unstable_by(|a, b| candidate_cmp(&a.1, &b.1));
-    places_in(alloc, &all)
+    fill_by_finish(keys, clusters)?;
+    keys.sort_unstable_by(|a, b| falling_cmp(a, b));
+    places_in(alloc, keys)
 }
 
 // The places of the clusters, the latest writes first.
-fn late_write_places(alloc: Global, clusters: &[Cluster]) -> Result<Vec<u32>, AllocError>
+fn late_write_places(
+    alloc: Global,
+    keys: &mut Vec<Key>,
+    clusters: &[Cluster],
+) -> Result<Vec<u32>, AllocError>
     requires few { length clusters.now < 2 ^ 32 }
     ensures { let are = ArePlacesBy clusters.now (λ c. true) late_write_order in
         IfOk result (λ places. are places.items) }
 {
-    let mut all = numbered(alloc, clusters)?;
-    all.sort_unstable_by(|a, b| late_write_cmp(&a.1, &b.1));
-    places_in(alloc, &all)
+    fill_by_write(keys, clusters)?;
+    keys.sort_unstable_by(|a, b| late_cmp(a, b));
+    places_in(alloc, keys)
 }
 
 // The places of the clusters with reads, the latest reads first.
-fn late_read_places(alloc: Global, clusters: &[Cluster]) -> Result<Vec<u32>, AllocError>
+fn late_read_places(
+    alloc: Global,
+    keys: &mut Vec<Key>,
+    clusters: &[Cluster],
+) -> Result<Vec<u32>, AllocError>
     requires few { length clusters.now < 2 ^ 32 }
     ensures { let are = ArePlacesBy clusters.now (λ c. is_some c.s) late_read_order in
         IfOk result (λ places. are places.items) }
 {
-    let mut all = numbered_reads(alloc, clusters)?;
-    all.sort_unstable_by(|a, b| late_read_cmp(&a.1, &b.1));
-    places_in(alloc, &all)
+    fill_by_reads(keys, clusters)?;
+    keys.sort_unstable_by(|a, b| late_cmp(a, b));
+    places_in(alloc, keys)
 }
 
 /// The places of clusters in three orders, and those that are placed. Of each order those that are not placed are linked
@@ -144,9 +108,10 @@ impl Lists {
         ensures placed { IfOk result (λ lists. lists.placed ≡ []) }
     {
         let end = clusters.len() as u32;
-        let candidates = candidate_places(alloc, clusters)?;
-        let writes = late_write_places(alloc, clusters)?;
-        let reads = late_read_places(alloc, clusters)?;
+        let mut keys = Vec::with_capacity(alloc, clusters.len())?;
+        let candidates = candidate_places(alloc, &mut keys, clusters)?;
+        let writes = late_write_places(alloc, &mut keys, clusters)?;
+        let reads = late_read_places(alloc, &mut keys, clusters)?;
         let by_candidate = Links::of(alloc, end, &candidates)?;
         let by_write = Links::of(alloc, end, &writes)?;
         let by_read = Links::of(alloc, end, &reads)?;

@@ -1,19 +1,21 @@
-use Rattle.std.proofs.Common.{rules, ℕ, List, map, sym, ap, subst, ◌∙◌}
-use Rattle.std.specs.Prelude.{is_some}
-use Rattle.std.specs.List.{filter}
+use Rattle.std.proofs.Common.{rules, ℕ, List, map, refl, sym, ap, subst, ◌∙◌}
 use Rattle.std.specs.List.Sorted.{IsPermutation}
 use Rattle.std.specs.Ordering.{is_lt}
 use Rattle.std.proofs.lemmas.Fn.{always_returns_same}
 use Rattle.std.proofs.lemmas.List.Sorted.{ranks_by}
 use Rattle.std.proofs.lemmas.Result.{IfOk-weaker}
-use Rattle.lbt_epochs.specs.Lists.{ArePlacesBy, numbered, late_read_order}
-use Rattle.stale_model.specs.declared.Cluster.{Cluster}
-use Rattle.lbt_epochs.proofs.TotalOrders.{late_read_order-total}
-use Rattle.lbt_epochs.proofs.NumberedPlaces.{sorted_places}
+use Rattle.std.specs.Prelude.{is_some}
+use Rattle.stale_model.specs.Zones.{reads_start}
+use Rattle.lbt_epochs.specs.declared.keys.Key.{Key}
+use Rattle.lbt_epochs.specs.Lists.{ArePlacesBy, late_read_order}
+use Rattle.lbt_epochs.specs.Keys.{keys_of, late_order}
+use Rattle.lbt_epochs.proofs.TotalOrders.{late_order-total}
+use Rattle.lbt_epochs.proofs.KeyedPlaces.{sorted_places}
 use Rattle.lbt_epochs.proofs.lists.late_read_places.Goals as goal
 
 pub returns : goal.returns
 returns c =
-    let sorted = c.sort_unstable_by.ensures.sorted (λ x y. is_lt (late_read_order x.1 y.1)) (ranks_by late_read_order-total (λ one. one.1)) (always_returns_same _ _ _ (λ a r f k. search rules)) in
-    let permuted : IsPermutation (filter (λ (one : ℕ × Cluster). is_some one.1.s) (numbered c.args.clusters.now)) c.sort_unstable_by.new.self.items = rw (← c.in_ok-all.ensures) c.sort_unstable_by.ensures.permutation in
-    IfOk-weaker c.places_in.result _ _ (λ places is. subst (λ (l : List ℕ). ArePlacesBy c.args.clusters.now (λ c. is_some c.s) late_read_order l) (sym (is ∙ ap (map (λ (one : ℕ × Cluster). one.0)) c.deref.ensures.value)) (sorted_places c.args.clusters.now (λ c. is_some c.s) late_read_order _ permuted sorted)) c.places_in.ensures
+    let sorted = c.sort_unstable_by.ensures.sorted (λ x y. is_lt (late_order x y)) (ranks_by late_order-total (λ k. k)) (always_returns_same _ _ _ (λ a r f k. search rules)) in
+    let permuted : IsPermutation (keys_of (λ c. is_some c.s) reads_start c.args.clusters.now) c.sort_unstable_by.new.self.items = rw (← c.in_ok-fill_by_reads.ensures) c.sort_unstable_by.ensures.permutation in
+    let places = sorted_places c.args.clusters.now reads_start (λ c. is_some c.s) late_read_order late_order (λ a b. refl) _ permuted sorted in
+    IfOk-weaker c.places_in.result _ _ (λ found is. subst (λ (l : List ℕ). ArePlacesBy c.args.clusters.now (λ c. is_some c.s) late_read_order l) (sym (is ∙ ap (map (λ (key : Key). key.at)) c.deref.ensures.value)) places) c.places_in.ensures
