@@ -1,7 +1,7 @@
 -- A shelf and a sink in memory as they are shown.
 use Rattle.std.specs.Prelude.{ℕ, ◌-◌, List, length, Some, option_map, vec_len, vec_capacity}
 use Rattle.std.specs.Option.{option_map_or}
-use Rattle.audit_ports.specs.declared.memory.Calls.{Calls}
+use Rattle.audit_ports.specs.declared.calls.Calls.{Calls}
 use Rattle.audit_ports.specs.declared.memory.MemoryShelf.{MemoryShelf}
 use Rattle.audit_ports.specs.declared.memory.MemorySink.{MemorySink}
 use Rattle.audit_ports.specs.Shelf.{Files, Shown}

@@ -1,16 +1,19 @@
-//! The outside of the program as traits: files that are read and written, outputs that are written, and a gate round each piece of
-//! work; with implementations in memory, and the real ones.
+//! The outside of the program: files that are read and written, outputs that are written, a gate round each piece of work, and a crew
+//! that runs jobs in threads of their own. The first three are traits, with implementations in memory, and the real ones.
 #![tactic(auto)]
 
-ghost use Rattle.std.specs.Prelude.{◌≡◌, ◌<◌, ◌≤◌, length, None, IsSome};
+ghost use Rattle.std.specs.Prelude.{◌≡◌, ℕ, ◌<◌, ◌≤◌, length, None, IsSome};
 ghost use Rattle.audit_ports.specs.Shelf.{Shown, Opens, Reads, Creates, WritesPiece, Finishes, Rose};
 ghost use Rattle.audit_ports.specs.Sink.{SinkShown, Writes, Flushes};
 
+mod calls;
+mod crew;
 mod memory;
 mod real;
 #[cfg(test)]
 mod tests;
 
+pub use crew::ThreadCrew;
 pub use memory::{MemoryShelf, MemorySink};
 pub use real::{RealShelf, RealSink};
 
@@ -80,6 +83,30 @@ pub trait Sink {
     /// leaves it pending where it was.
     fn flush(&mut self) -> Result<(), Failed>
         ensures { Flushes (shown self.old) result (shown self.new) };
+}
+
+/// Work for a thread of its own, and what it gives in the end.
+pub trait Job: Send + Sized {
+    /// What the work gives.
+    type Out: Send;
+
+    /// The number of this job.
+    ghost number: { Self → ℕ };
+
+    /// What the job asks before it runs.
+    ghost can_run: { Self → Type 0 };
+
+    /// What the job's end keeps.
+    ghost ends: { Self → Self.Out → Type 0 };
+
+    /// A number that tells the job apart.
+    fn mark(&self) -> u32
+        ensures { result ≡ number self.now };
+
+    /// Does the work.
+    fn run(self) -> Self::Out
+        requires { can_run self }
+        ensures { ends self result };
 }
 
 /// What a worker passes at the beginning and the end of each piece of work. It promises nothing, of other threads

@@ -7,29 +7,11 @@ ghost use Rattle.audit_ports.specs.Calls.{CountsCall, IsFailingCall, no_calls};
 ghost use Rattle.audit_ports.specs.Listed.{listed};
 ghost use Rattle.audit_ports.specs.MemoryFiles.{HaveDistinctNames, OpensFile, IsOpened, has_name, bytes_at, files_of, with_first_longer};
 
+use crate::calls::Calls;
 use crate::{Failed, OpenFault, Shelf, Sink, raise};
 use stale_model::{Bytes, List, Memory};
 use std::alloc::Global;
 use std::marker::Model;
-
-/// How many calls were counted, and the numbers of those that fail.
-#[derive(Drop, Debug)]
-struct Calls {
-    counted: u64,
-    fail: List<u32>,
-}
-
-impl Calls {
-    // Counts a call, and says whether it is one that fails.
-    fn count(&mut self) -> bool
-        ensures counts { CountsCall self.old self.new }
-        ensures failing { IsTrue result ↔ IsFailingCall self.new }
-    {
-        self.counted = self.counted.saturating_add(1);
-        let number = self.counted;
-        self.fail.as_slice().iter().any(|&n| u64::from(n) == number)
-    }
-}
 
 /// The place of the open file among the files, and the place in it.
 #[derive(Clone, Copy, Debug)]
@@ -208,7 +190,7 @@ impl MemoryShelf {
                 created: Vec::new(alloc),
                 given: files,
             },
-            calls: Calls { counted: 0, fail },
+            calls: Calls::none(fail),
             read_faults: 0,
             write_faults: 0,
             misses: 0,
@@ -359,7 +341,7 @@ impl MemorySink {
         ensures calls { IfOk result (λ sink. sink_calls sink ≡ no_calls fail) }
     {
         Ok(MemorySink {
-            calls: Calls { counted: 0, fail },
+            calls: Calls::none(fail),
             faults: 0,
             written: Vec::new(alloc),
             pending: false,

@@ -1,9 +1,9 @@
-//! The real files and outputs, of which no clause says what they hold; and a file in memory that is written.
+//! The real files and outputs, of which no clause says what they hold; a file in memory that is written; and jobs in threads.
 ghost use Rattle.std.specs.Prelude.{◌≡◌, None, IfOk};
 ghost use Rattle.audit_ports.specs.MemoryShown.{memory_shown};
 
 use crate::real::read_stream;
-use crate::{Failed, MemoryShelf, OpenFault, RealShelf, RealSink, Shelf, Sink};
+use crate::{Failed, Job, MemoryShelf, OpenFault, RealShelf, RealSink, Shelf, Sink, ThreadCrew};
 use stale_model::{Bytes, List};
 use std::alloc::{AllocError, Global};
 use std::io::{self, ErrorKind, Read, Write};
@@ -245,5 +245,60 @@ fn a_refused_write_adds_nothing_in_memory(rt: HostRuntime) -> Result<(), Fail> {
     assert!(rt; shelf.file(b"h") == Some(b"".as_slice()), "after");
     assert!(rt; shelf.file(b"c") == Some(b"new".as_slice()), "other");
     assert!(rt; shelf.file(b"d").is_none(), "absent");
+    Ok(())
+}
+
+// A number to be doubled.
+#[derive(Drop)]
+struct Doubling {
+    number: u32,
+}
+
+// A number and its double.
+#[derive(Drop)]
+struct Doubled {
+    number: u32,
+    double: u64,
+}
+
+impl Job for Doubling {
+    ghost use Rattle.std.specs.Prelude.{◌*◌, ⊤};
+
+    type Out = Doubled;
+
+    ghost number = { λ job. job.number };
+
+    ghost can_run = { λ job. ⊤ };
+
+    ghost ends = { λ job end. end.double ≡ 2 * job.number };
+
+    fn mark(&self) -> u32 {
+        self.number
+    }
+
+    fn run(self) -> Doubled {
+        Doubled {
+            number: self.number,
+            double: 2 * u64::from(self.number),
+        }
+    }
+}
+
+#[test]
+fn all_jobs_but_the_refused_one_run(rt: HostRuntime) -> Result<(), Fail> {
+    let fail = List::from_vec(Vec::from_slice(rt.alloc(), &[2u32])?);
+    let Ok(mut crew) = ThreadCrew::prepare(rt, rt.alloc(), 2, fail) else {
+        panic!(rt; "no memory");
+    };
+    let first = crew.start(Doubling { number: 5 });
+    let second = crew.start(Doubling { number: 6 });
+    let third = crew.start(Doubling { number: 7 });
+    let (Ok(()), Err(Failed), Ok(())) = (first, second, third) else {
+        panic!(rt; "not the second alone");
+    };
+    let five = crew.join();
+    assert_eq!(rt; (five.number, five.double), (5, 10));
+    let seven = crew.join();
+    assert_eq!(rt; (seven.number, seven.double), (7, 14));
     Ok(())
 }
