@@ -3,3 +3,8 @@ pub mod Stamps
 pub mod Admitted
 pub mod Written
 pub mod Greatest
+pub mod Permuted
+pub mod Rising
+pub mod Counted
+pub mod Tickets
+pub mod Parts

@@ -42,7 +42,7 @@ pub record IsSentBy (es : List Entry) (q : Request) : Type 0 where
   pub request : (q ≡ request_of call) ⊎ (q ≡ repair_of call)
 
 -- what a call sends is its request or its repair
-sent_cases : (b : Bool) (e : Entry) (q : Request) → Contains (request_of e ∷ cond b (repair_of e ∷ []) []) q → (q ≡ request_of e) ⊎ (q ≡ repair_of e)
+pub sent_cases : (b : Bool) (e : Entry) (q : Request) → Contains (request_of e ∷ cond b (repair_of e ∷ []) []) q → (q ≡ request_of e) ⊎ (q ≡ repair_of e)
 sent_cases true e q c = elim (first_or_later (request_of e) q (repair_of e ∷ []) c) [
   | inl is ↦ inl (sym is)
   | inr d ↦ elim (first_or_later (repair_of e) q [] d) [ inl is ↦ inr (sym is) | inr none ↦ absurd (empty_has_none q none) ]

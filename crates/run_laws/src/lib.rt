@@ -5,6 +5,7 @@
 pub mod examples;
 
 ghost use Rattle.run_laws.specs.Laws.{HeldIsFirstGreatest, FreshestIsFirstGreatest, TookStandInJournal, ReadsReturnEarlierWrites, ReplicasDropNone};
+ghost use Rattle.run_laws.specs.Parts.{PartsAreRecorded, TicketsAreOfParts};
 
 /// What is held of a key is the pair of the write or repair on it with the greatest stamp, on a tie of the first; nothing
 /// where none has a stamp above 0.
@@ -32,4 +33,15 @@ pub fn reads_return_earlier_writes()
 /// A replica serves all requests of a run, in the order in which they come.
 pub fn replicas_drop_none()
     ensures { ReplicasDropNone }
+{}
+
+/// The parts of a run, what each client and each replica has of it at its end, are a recorded run, once the calls of all
+/// clients stand by rising start.
+pub fn parts_are_recorded()
+    ensures { PartsAreRecorded }
+{}
+
+/// The tickets of the parts of a run are those of the run, in another order.
+pub fn tickets_are_of_parts()
+    ensures { TicketsAreOfParts }
 {}
