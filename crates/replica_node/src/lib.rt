@@ -1,7 +1,7 @@
 //! A replica of the store: of each key it holds one pair, and it keeps each request with its reply in a journal.
 #![tactic(auto)]
 
-ghost use Rattle.std.specs.Prelude.{◌≡◌, ℕ, ◌+◌, ◌-◌, ◌<◌, ◌≤◌, List, [], ◌∷◌, ◌++◌, length, All, IfOk, slice_index_or, replicate};
+ghost use Rattle.std.specs.Prelude.{◌≡◌, ℕ, ◌+◌, ◌-◌, ◌<◌, ◌≤◌, nat_lt, List, [], ◌∷◌, ◌++◌, length, All, IfOk, slice_index_or, replicate};
 ghost use Rattle.stale_model.specs.declared.store.JournalEntry.{JournalEntry};
 ghost use Rattle.stale_model.specs.Journals.{changes, held_after, held, answer_to, IsServed, IsJournal};
 ghost use Rattle.replica_node.specs.Pairs.{as_pair};
@@ -71,6 +71,20 @@ impl Replica {
             held,
             journal,
         })
+    }
+
+    /// Its number.
+    pub fn number(&self) -> u32
+        ensures { result ≡ self.now.number }
+    {
+        self.number
+    }
+
+    /// Whether its journal has a place left.
+    pub fn has_room(&self) -> bool
+        ensures { result ≡ nat_lt (length self.now.journal) self.now.places }
+    {
+        self.journal.len() < self.places as usize
     }
 
     /// Serves a request of one of the keys: draws its ticket, and keeps it with its reply at the end of the journal. A
