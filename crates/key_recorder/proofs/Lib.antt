@@ -1,0 +1,5 @@
+pub mod SentLetters
+pub mod Lanes
+pub mod Taking
+pub mod Shards
+pub mod Making
