@@ -1,0 +1,13 @@
+pub mod Jobs
+pub mod JobSteps
+pub mod Clients
+pub mod Logs
+pub mod Runs
+pub mod Ends
+pub mod Openings
+pub mod Ready
+pub mod Prepared
+pub mod Left
+pub mod Ended
+pub mod Closing
+pub mod Drive
