@@ -22,5 +22,8 @@ pub mod ValidFacts
 pub mod Definite
 pub mod FewRecords
 pub mod WrittenRows
+pub mod RecordedRows
+pub mod JournalFacts
+pub mod TicketFacts
 pub mod WrittenNumbers
 pub mod ReadsBack

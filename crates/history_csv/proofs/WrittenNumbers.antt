@@ -9,7 +9,7 @@ use Rattle.std.proofs.lemmas.Str.Parse.{IsNumeralModel, numerals_by_fold}
 use Rattle.stale_model.specs.declared.Kind.{Kind}
 use Rattle.stale_model.specs.declared.Kind.TheVariants.{Read, Write}
 use Rattle.history_csv.specs.Entries.{client_of, finish_after, finish_of, greatest_tick, is_digit, key_of, kind_of, number_from_digits, number_of, number_within, text_of, tick_of, value_of}
-use Rattle.history_csv.specs.Written.{key_text, op_text, value_text}
+use Rattle.stale_model.specs.Texts.{key_text, op_text, value_text}
 
 -- the number that digits say after those of another
 abbrev number_after : ℕ → List ℕ → ℕ
@@ -75,7 +75,7 @@ key_of-text n small =
     let (some, short) = length-name 107 n small in
     text_of-within 1 256 (key_text n) some (omega arith)
 
-value_text-some : (n : ℕ) → 1 ≤ n → value_text n ≡ 118 ∷ decimal n
+pub value_text-some : (n : ℕ) → 1 ≤ n → value_text n ≡ 118 ∷ decimal n
 value_text-some n some = rw (ne_eqb n 0 (λ none. omega arith)) refl
 
 -- a value

@@ -17,6 +17,7 @@ mod laws;
 mod numbering;
 mod part_keys;
 mod parts;
+mod recorded;
 mod records;
 mod writing;
 
@@ -24,7 +25,8 @@ use crate::builder::{Builder, has_many_keys};
 use crate::entry::entry_of;
 pub use crate::header::column_name;
 use crate::header::{Columns, columns_of};
-pub use crate::laws::{records_are_few, what_is_written_reads_back};
+pub use crate::laws::{records_are_few, what_is_recorded_reads_back, what_is_written_reads_back};
+pub use crate::recorded::{write_journal, write_recorded};
 use crate::records::{read_next, reader_of};
 pub use crate::writing::write_history;
 use csv::{ByteRecord, Reader};

@@ -11,7 +11,8 @@ use Rattle.std.proofs.lemmas.List.Sums.{sum_by-le}
 use Rattle.stale_model.specs.declared.Kind.{Kind}
 use Rattle.stale_model.specs.declared.Kind.TheVariants.{Read, Write}
 use Rattle.stale_model.specs.declared.Line.{Line}
-use Rattle.history_csv.specs.Written.{IsReadable, header_text, history_text, key_text, line_text, op_text, value_text}
+use Rattle.stale_model.specs.Texts.{key_text, op_text, value_text}
+use Rattle.history_csv.specs.Written.{IsReadable, header_text, history_text, line_text}
 use Rattle.history_csv.proofs.ReadsBack.{reads_back}
 use Rattle.history_gen.specs.Generated.{lines_of}
 use Rattle.history_gen.specs.Laws.{GeneratedLinesReadBack}
