@@ -33,7 +33,7 @@ module _ {X : Type 0} where
 
 module _ {X Y : Type 0} where
   -- a flattened list contains what is made of each element
-  flattened_from : (f : X → List Y) (xs : List X) (x : X) (y : Y) → Contains xs x → Contains (f x) y → Contains (flat_map f xs) y
+  pub flattened_from : (f : X → List Y) (xs : List X) (x : X) (y : Y) → Contains xs x → Contains (f x) y → Contains (flat_map f xs) y
   flattened_from f [] x y there here = absurd (let low = there.1 in omega arith)
   flattened_from f (z ∷ xs) x y there here = elim (first_or_later z x xs there) [
     | inl is ↦ Contains-append_left (f z) (flat_map f xs) y (subst (λ (w : X). Contains (f w) y) (sym is) here)
