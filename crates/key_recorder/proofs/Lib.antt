@@ -3,3 +3,4 @@ pub mod Lanes
 pub mod Taking
 pub mod Shards
 pub mod Making
+pub mod Recorded

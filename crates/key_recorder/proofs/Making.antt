@@ -1,8 +1,8 @@
 -- What is made while a run is prepared, with one more client or one more shard.
-use Rattle.std.proofs.Common.{◌≡◌, ℕ, zero, suc, ◌+◌, ◌-◌, ◌*◌, ◌<◌, ◌≤◌, Bool, false, cond, eqb, List, [], ◌∷◌, ◌++◌, length, drop, get_or, refl, ap, sym, ◌∙◌, subst, inl, inr, arith, length-append, get_or-set_same, get_or-set_other}
+use Rattle.std.proofs.Common.{◌≡◌, ℕ, ◌+◌, ◌-◌, ◌*◌, ◌<◌, ◌≤◌, Bool, false, cond, eqb, List, [], ◌∷◌, ◌++◌, length, drop, get_or, refl, ap, sym, ◌∙◌, subst, inl, inr, arith, length-append, get_or-set_same, get_or-set_other}
 use Rattle.std.specs.Prelude.{All, slice_set}
 use Rattle.std.proofs.lemmas.Bool.{cases_lt, cases_eq, ne_eqb}
-use Rattle.std.proofs.lemmas.List.{length-map, map-append, get_or_push, get_or_default}
+use Rattle.std.proofs.lemmas.List.{length-map, map-append, get_or_append_left, get_or_push, get_or_default}
 use Rattle.std.proofs.lemmas.List.Sums.{sum_by_push, sum_by-drop_more, sum_by-le}
 use Rattle.ticket_clock.specs.Seats.{times}
 use Rattle.post_box.specs.Boxes.{BoxView, WholeView}
@@ -28,16 +28,11 @@ none_more c s xs past none =
     let apart : eqb c s ≡ false = ne_eqb c s (λ e. omega arith) in
     sum_by_push (λ (y : ℕ). cond (eqb y s) 1 0) xs c ∙ (ap (λ (b : Bool). times s xs + cond b 1 0) apart ∙ omega (arith, none))
 
-push_place : {X : Type 0} (xs ys : List X) (k : ℕ) (d : X) → k < length xs → get_or (xs ++ ys) k d ≡ get_or xs k d
-push_place [] ys k d less = absurd (omega arith)
-push_place (x ∷ xs) ys zero d less = refl
-push_place (x ∷ xs) ys (suc k) d less = push_place xs ys k d (omega arith)
-
 -- what holds at each place, after one more
 pub places_more : {X : Type 0} (P : ℕ → X → Type 0) (xs : List X) (x : X) (n : ℕ) → length xs ≡ n → ((k : ℕ) (d : X) → k < n → P k (get_or xs k d)) → P n x
     → (k : ℕ) (d : X) → k < n + 1 → P k (get_or (xs ++ x ∷ []) k d)
 places_more P xs x n long each here k d less = elim (cases_lt k n) [
-  | inl below ↦ subst (P k) (sym (push_place xs (x ∷ []) k d (omega (arith, long)))) (each k d below)
+  | inl below ↦ subst (P k) (sym (get_or_append_left xs (x ∷ []) d k (omega (arith, long)))) (each k d below)
   | inr above ↦
       let same : n ≡ k = omega arith in
       subst (λ (j : ℕ). P j (get_or (xs ++ x ∷ []) j d)) same (subst (P n) (sym (get_or_push xs x d n long)) here)
@@ -144,8 +139,8 @@ pub logs_more : (clients shard : ℕ) (boxes : List BoxView) (box : BoxView) (gs
     → (k : ℕ) (b : BoxView) (d : LogView) → k < shard + 1 → get_or (gs ++ g ∷ []) k d ≡ first_log clients k (get_or (boxes ++ box ∷ []) k b)
 logs_more clients shard boxes box gs g long many each is k b d less = elim (cases_lt k shard) [
   | inl below ↦
-      push_place gs (g ∷ []) k d (omega (arith, many))
-      ∙ (each k b d below ∙ ap (first_log clients k) (sym (push_place boxes (box ∷ []) k b (omega (arith, long)))))
+      get_or_append_left gs (g ∷ []) d k (omega (arith, many))
+      ∙ (each k b d below ∙ ap (first_log clients k) (sym (get_or_append_left boxes (box ∷ []) b k (omega (arith, long)))))
   | inr above ↦
       let same : shard ≡ k = omega arith in
       let here : get_or (gs ++ g ∷ []) shard d ≡ first_log clients shard (get_or (boxes ++ box ∷ []) shard b) =

@@ -8,6 +8,8 @@ mod log;
 mod pass;
 mod prepare;
 mod recorder;
+#[cfg(test)]
+mod tests;
 
 pub use collected::collect;
 pub use letters::RecordLetter;

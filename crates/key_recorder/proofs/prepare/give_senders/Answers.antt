@@ -1,5 +1,5 @@
 -- The lane of one client more.
-use Rattle.std.proofs.Common.{◌≡◌, ◌-◌, ℕ, [], length, get_or, ap, ◌∙◌, arith}
+use Rattle.std.proofs.Common.{◌≡◌, ℕ, [], length, get_or, ap, ◌∙◌, arith}
 use Rattle.std.proofs.lemmas.List.{get_or_default}
 use Rattle.ticket_clock.specs.Seats.{times}
 use Rattle.post_box.specs.Boxes.{WholeView, SenderView}

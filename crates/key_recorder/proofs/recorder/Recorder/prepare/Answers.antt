@@ -1,5 +1,5 @@
 -- One shard more, and what all shards make.
-use Rattle.std.proofs.Common.{◌≡◌, ◌+◌, ◌<◌, ℕ, List, [], ◌∷◌, ◌++◌, length, map, slice_index_or, ap, sym, ◌∙◌, subst, arith, length-append}
+use Rattle.std.proofs.Common.{◌≡◌, ◌<◌, ℕ, List, [], ◌∷◌, ◌++◌, length, map, slice_index_or, ap, sym, ◌∙◌, subst, arith, length-append}
 use Rattle.std.specs.Arc.{arc_value}
 use Rattle.post_box.specs.Boxes.{BoxView}
 use Rattle.stale_model.specs.declared.store.PlanCall.{PlanCall}
