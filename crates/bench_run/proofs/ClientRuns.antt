@@ -1,17 +1,17 @@
 -- The run of a client so far: what each call and its entry leave of the client and of its pass.
-use Rattle.std.proofs.Common.{◌≡◌, ℕ, ◌+◌, ◌-◌, ◌<◌, ◌≤◌, Bool, true, false, cond, eqb, List, [], ◌∷◌, ◌++◌, length, map, slice_index_or, append_assoc, length-append, refl, sym, ◌∙◌, ap, subst, inl, inr, arith, eq-eqb}
+use Rattle.std.proofs.Common.{◌≡◌, ℕ, ◌+◌, ◌-◌, ◌<◌, ◌≤◌, Bool, cond, eqb, List, [], ◌∷◌, ◌++◌, length, map, slice_index_or, append_assoc, length-append, refl, sym, ◌∙◌, ap, subst, inl, inr, arith, eq-eqb}
 use Rattle.std.proofs.lemmas.Bool.{cases_eq, ne_eqb}
-use Rattle.std.proofs.lemmas.List.{append-nil, map-append, length-map, get_or-map, same_lists}
+use Rattle.std.proofs.lemmas.List.{append-nil, map-append}
 use Rattle.std.proofs.lemmas.List.Elements.{filter-append}
 use Rattle.std.proofs.lemmas.List.Sums.{sum_by-cons}
 use Rattle.ticket_clock.specs.Seats.{ClockView}
-use Rattle.post_box.specs.Boxes.{BoxView}
 use Rattle.stale_model.specs.declared.store.PlanCall.{PlanCall}
 use Rattle.stale_model.specs.declared.store.Entry.{Entry}
 use Rattle.key_recorder.specs.declared.letters.RecordLetter.{RecordLetter}
 use Rattle.key_recorder.specs.declared.letters.RecordLetter.TheVariants.{Entry as EntryLetter}
-use Rattle.key_recorder.specs.Recorders.{RecorderView, LaneView, PassView, IsOf, shard_of, with_letter, IsRecorded}
+use Rattle.key_recorder.specs.Recorders.{RecorderView, LaneView, PassView, shard_of, with_letter, IsRecorded}
 use Rattle.key_recorder.specs.Prepared.{calls_on}
+use Rattle.key_recorder.proofs.Recorded.{still_of}
 use Rattle.quorum_client.specs.Clients.{ClientView, IsCalled}
 use Rattle.bench_run.specs.Clients.{Ran}
 use Rattle.bench_run.specs.Logs.{entries_on}
@@ -73,28 +73,7 @@ lane_push shards shard es e l =
           ∙ ap (λ (xs : List RecordLetter). with_letters xs l) (sym push)
     ]
 
--- the box of a lane stays where an entry is sent, or none
-box_stays : (b : Bool) (x : RecordLetter) (l : LaneView) → (cond b (with_letter x l) l).box ≡ l.box
-box_stays true x l = refl
-box_stays false x l = refl
-
 module _ (e : Entry) (p q : PassView) (recorded : IsRecorded e p q) where
-  -- a pass stays of its recorder
-  still_of : (recorder : RecorderView) → IsOf recorder p → IsOf recorder q
-  still_of recorder is =
-      let box : LaneView → BoxView = λ l. l.box in
-      let many = recorded.as_many in
-      let long : length (map box q.lanes) ≡ length (map box p.lanes) = length-map q.lanes box ∙ (many ∙ sym (length-map p.lanes box)) in
-      let at : (k : ℕ) (d : BoxView) → k < length (map box q.lanes) → slice_index_or (map box q.lanes) k d ≡ slice_index_or (map box p.lanes) k d = λ k d less.
-      let l : LaneView = record { box = d; sent = []; left = 0; here = true } in
-      let inside : k < length q.lanes = let n = length-map q.lanes box in omega arith in
-      get_or-map box q.lanes k l d inside
-      ∙ (ap box (recorded.each k l (omega arith))
-      ∙ (box_stays (eqb k (shard_of (length p.lanes) e.key)) (EntryLetter e) (slice_index_or p.lanes k l)
-      ∙ sym (get_or-map box p.lanes k l d (omega arith))))
-      in
-      same_lists (map box q.lanes) (map box p.lanes) long at ∙ is
-
   -- each lane has room for the entries of the calls that are left
   room_after : (calls left : List PlanCall) (call : PlanCall) (shard : ℕ) (l : LaneView) → calls ≡ call ∷ left → e.key ≡ call.key → shard < length p.lanes
       → calls_on (length p.lanes) shard calls + 1 ≤ (slice_index_or p.lanes shard l).left → calls_on (length p.lanes) shard left + 1 ≤ (slice_index_or q.lanes shard l).left

@@ -22,10 +22,10 @@ use Rattle.stale_model.specs.declared.store.Entry.{Entry}
 use Rattle.stale_model.specs.Serving.{admits, served_after}
 use Rattle.stale_model.specs.RecordedRuns.{tickets_of}
 use Rattle.run_laws.specs.Laws.{replies_to, taken_of}
-use Rattle.run_laws.specs.Parts.{all_calls as calls_of_all}
+use Rattle.run_laws.specs.Parts.{all_calls}
 use Rattle.run_laws.proofs.Parts.{parts_are_recorded}
 use Rattle.run_laws.proofs.Tickets.{tickets_of_parts}
-use Rattle.ticket_clock.specs.Seats.{SeatView, HasNoneTwice, IsOneToLength, times}
+use Rattle.ticket_clock.specs.Seats.{ClockView, SeatView, HasNoneTwice, IsOneToLength, times}
 use Rattle.ticket_clock.proofs.Totals.{times_cons}
 use Rattle.post_box.specs.Boxes.{letters_of}
 use Rattle.quorum_client.specs.declared.letters.Note.{Note}
@@ -36,6 +36,7 @@ use Rattle.quorum_client.specs.Letters.{sender_of}
 use Rattle.quorum_client.specs.Routes.{IsReadyRoute, with_sent}
 use Rattle.key_recorder.specs.Letters.{entries_in}
 use Rattle.key_recorder.specs.Recorders.{LogView}
+use Rattle.key_recorder.specs.Prepared.{IsPrepared}
 use Rattle.key_recorder.specs.Collected.{IsCollected}
 use Rattle.bench_run.specs.declared.boxes.NoteBox.{NoteBox}
 use Rattle.bench_run.specs.declared.boxes.ReplyBox.{ReplyBox}
@@ -47,7 +48,7 @@ use Rattle.bench_run.specs.declared.prepared.Prepared.TheInside.{Inside}
 use Rattle.bench_run.specs.Jobs.{JobView, asked_in, CanServe, IsServedOut}
 use Rattle.bench_run.specs.JobSteps.{view_of}
 use Rattle.bench_run.specs.Clients.{tickets_of_calls, notes_to}
-use Rattle.bench_run.specs.Ends.{sent_by, replier_of, IsOwnNotes, IsOwnReplies, IsClientOf, IsReplicaOf, HasReplies, HasNotes, IsToldNotes, IsToldReplies, HasTickets}
+use Rattle.bench_run.specs.Ends.{sent_by, replier_of, IsOwnNotes, IsOwnReplies, IsClientOf, IsReplicaOf, AreToldNotes, AreTakenReplies, HasTickets}
 use Rattle.bench_run.specs.Ready.{places, tickets, plan_in, IsReadyReplica, IsReadyClient}
 use Rattle.bench_run.specs.Prepared.{IsReadyRun}
 use Rattle.bench_run.specs.Logs.{AreLogged}
@@ -182,6 +183,20 @@ module _ (p : Inside) (ready : IsReadyRun p) where
         routes = routes_all k (2 * p.settings.calls + 1) c low (omega arith);
       }
 
+  pub clients_can : (clock : ClockView) (logs : List LogView) → clock ≡ arc_value p.clock → logs ≡ p.logs.items
+      → IsPrepared p.settings (plan_in p.clients.items) p.recorder p.passes.items logs
+      × ((k : ℕ) (c : ClientParts) → k < p.settings.clients → CanMakeCalls p.settings (plan_in p.clients.items) clock k (slice_index_or p.clients.items k c))
+  clients_can clock logs same_clock same_logs = (
+    subst (λ (gs : List LogView). IsPrepared p.settings (plan_in p.clients.items) p.recorder p.passes.items gs) (sym same_logs) ready.recorder,
+    λ k c low. subst (λ (v : ClockView). CanMakeCalls p.settings (plan_in p.clients.items) v k (slice_index_or p.clients.items k c)) (sym same_clock) (can_make_calls k c low),
+  )
+
+  pub own_boxes : (k : ℕ) (b : NoteBox) → k < length p.boxes.items → IsOwnNotes (slice_index_or p.boxes.items k b)
+  own_boxes k b low = record { own = (ready.boxes.each k b (let many = ready.boxes.as_many in omega arith)).own }
+
+  pub own_inboxes : (k : ℕ) (b : ReplyBox) → k < length p.inboxes.items → IsOwnReplies (slice_index_or p.inboxes.items k b)
+  own_inboxes k b low = record { own = (ready.boxes.each_inbox k b (let many = ready.boxes.as_many_inboxes in omega arith)).own }
+
   module _ (es : List ClientEnd) (gs : List LogView) (called : AreCalled p.settings (plan_in p.clients.items) p.clients.items es gs) where
     client_end : (k : ℕ) (c : ClientParts) (e : ClientEnd) → slice_get es k ≡ Some e → IsEndOf p.settings (plan_in p.clients.items) k (slice_index_or p.clients.items k c) (called.calls k) e
     client_end k c e at =
@@ -226,15 +241,14 @@ module _ (p : Inside) (ready : IsReadyRun p) where
         record { share = x.share; drawn = ap (λ (v : SeatView). v.drawn) x.seat; sent = λ replica few. sent_is k replica e few at }
 
     -- the end of a client fits the boxes
-    pub client_fits : (seat : SeatView) (k : ℕ) (e : ClientEnd) (b : ReplyBox) → seat.clock ≡ (arc_value p.clock).id → k < length es
-        → IsClientOf seat (slice_index_or p.inboxes.items k b) p.boxes.items (slice_index_or es k e)
-    client_fits seat k e b own low =
+    pub client_fits : (k : ℕ) (e : ClientEnd) (b : ReplyBox) → k < length es → IsClientOf p.seat (slice_index_or p.inboxes.items k b) p.boxes.items (slice_index_or es k e)
+    client_fits k e b low =
         let few : k < p.settings.clients = let many = called.as_many_ends in omega arith in
         let (c, here) = client_there k few in
         let is = ready.clients.each k b c few in
         let x = called.each_end k c e few in
         record {
-          seat_is = ap (λ (v : SeatView). v.clock) x.seat ∙ (is.seat_of ∙ sym own);
+          seat_is = ap (λ (v : SeatView). v.clock) x.seat ∙ (is.seat_of ∙ sym ready.clock.own);
           taker = x.box ∙ is.taker;
           routes = record {
             as_many = x.as_many ∙ (is.as_many ∙ sym ready.boxes.as_many);
@@ -258,13 +272,13 @@ module _ (p : Inside) (ready : IsReadyRun p) where
         let room = is.left in
         omega arith
 
-    module _ (bs : List BenchEnd) (as_many : length bs ≡ p.settings.replicas)
-        (served : (k : ℕ) (j : JobView) (e : BenchEnd) → k < p.settings.replicas → IsServedOut (slice_index_or (map view_of p.replicas.items) k j) (slice_index_or bs k e)) where
+    module _ (jobs : List JobView) (bs : List BenchEnd) (jobs_are : jobs ≡ map view_of p.replicas.items) (as_many : length bs ≡ p.settings.replicas)
+        (served : (k : ℕ) (j : JobView) (e : BenchEnd) → k < p.settings.replicas → IsServedOut (slice_index_or jobs k j) (slice_index_or bs k e)) where
       within_replicas : (k : ℕ) (e : BenchEnd) → slice_get bs k ≡ Some e → k < p.settings.replicas
       within_replicas k e at = let within = slice_get_within bs k e at in let many = as_many in omega arith
 
-      job_is : (k : ℕ) (r : JobParts) (j : JobView) → k < p.settings.replicas → slice_index_or (map view_of p.replicas.items) k j ≡ view_of (slice_index_or p.replicas.items k r)
-      job_is k r j low = get_or-map view_of p.replicas.items k r j (let many = ready.replicas.as_many in omega arith)
+      job_is : (k : ℕ) (r : JobParts) (j : JobView) → k < p.settings.replicas → slice_index_or jobs k j ≡ view_of (slice_index_or p.replicas.items k r)
+      job_is k r j low = ap (λ (js : List JobView). slice_index_or js k j) jobs_are ∙ get_or-map view_of p.replicas.items k r j (let many = ready.replicas.as_many in omega arith)
 
       replica_end : (k : ℕ) (r : JobParts) (e : BenchEnd) → k < p.settings.replicas → IsServedOut (view_of (slice_index_or p.replicas.items k r)) (slice_index_or bs k e)
       replica_end k r e low = subst (λ (x : JobView). IsServedOut x (slice_index_or bs k e)) (job_is k r (view_of r) low) (served k (view_of r) e low)
@@ -313,138 +327,110 @@ module _ (p : Inside) (ready : IsReadyRun p) where
           let total = all_tickets p.settings.clients p.settings.calls p.settings.replicas in
           omega arith
 
-      module _ (inboxes : List ReplyBox) (boxes : List NoteBox)
-          (replies : (k : ℕ) (b : ReplyBox) (e : ClientEnd) → k < length p.inboxes.items → HasReplies (slice_index_or es k e) (slice_index_or p.inboxes.items k b) (slice_index_or inboxes k b))
-          (notes : (k : ℕ) (b : NoteBox) → k < length p.boxes.items → HasNotes k es (slice_index_or p.boxes.items k b) (slice_index_or boxes k b)) where
-        -- the boxes and the inboxes are those of before, and what they are for is known
-        pub own_boxes : (k : ℕ) (b : NoteBox) → k < length p.boxes.items → IsOwnNotes (slice_index_or boxes k b)
-        own_boxes k b low =
-            let n = notes k b low in
-            let fresh = ready.boxes.each k b (let many = ready.boxes.as_many in omega arith) in
-            record { own = n.box ∙ (fresh.own ∙ ap (λ x. arc_value x) (sym n.post)) }
+      -- the end of a replica fits the inboxes
+      pub replica_fits : (k : ℕ) (e : BenchEnd) (b : NoteBox) → k < length bs → IsReplicaOf p.seat (slice_index_or p.boxes.items k b) p.inboxes.items (slice_index_or bs k e)
+      replica_fits k e b low =
+          let few : k < p.settings.replicas = let many = as_many in omega arith in
+          let (r, here) = job_there k few in
+          let j = ready.replicas.each k b r few in
+          let x = replica_end k r e few in
+          record {
+            seat_is = ap (λ (v : SeatView). v.clock) x.seat ∙ (j.seat_of ∙ sym ready.clock.own);
+            taker = x.box ∙ j.taker;
+            routes = record {
+              as_many = x.as_many ∙ (j.as_many ∙ sym ready.boxes.as_many_inboxes);
+              each = λ client d i within.
+                  let small : client < p.settings.clients = let many = ready.boxes.as_many_inboxes in omega arith in
+                  ap (λ (v : ReplyRoute). v.pass.box) (x.routes client d (let many = j.as_many in omega arith)) ∙ ((j.routes client d small).own ∙ j.to client d i small);
+            };
+          }
 
-        pub own_inboxes : (k : ℕ) (b : ReplyBox) → k < length p.inboxes.items → IsOwnReplies (slice_index_or inboxes k b)
-        own_inboxes k b low =
-            let few : k < p.settings.clients = let many = ready.boxes.as_many_inboxes in omega arith in
-            let (e, at) = stands es k (let many = called.as_many_ends in omega arith) in
-            let n = replies k b e low in
-            let fresh = ready.boxes.each_inbox k b few in
-            record { own = ap (λ w. w.box) n.whole ∙ (fresh.own ∙ ap (λ x. arc_value x) (sym n.post)) }
+      notes_are : ((k : ℕ) (b : NoteBox) (e : BenchEnd) → k < length p.boxes.items → AreToldNotes k es (slice_index_or p.boxes.items k b) (slice_index_or bs k e))
+          → (k : ℕ) (e : BenchEnd) → slice_get bs k ≡ Some e → AreNotesOf p.settings k es e
+      notes_are told k e at =
+          let low = within_replicas k e at in
+          let (b, there) = box_there k low in
+          let fresh = ready.boxes.each k b low in
+          let t = subst (λ (x : BenchEnd). AreToldNotes k es (slice_index_or p.boxes.items k b) x) (get_or_from_slice_get bs k e e at) (told k b e (slice_get_within p.boxes.items k b there)) in
+          record {
+            known = λ client some. let low = below_range client 0 p.settings.clients (subst (λ (xs : List ℕ). 0 < times client xs) fresh.numbers (t.known client some)) in omega arith;
+            taken = λ client few.
+                let (d, here) = stands es client (let many = called.as_many_ends in omega arith) in
+                let (r, on) = route_there client k d low here in
+                let began = subst (λ (n : ℕ). IsPrefix (letters_of sender_of n e.taker.taken) (letters_of sender_of n ((slice_index_or p.boxes.items k b).whole.sent ++ flat_map (sent_by k) es)))
+                (number_is client k d r low here on) (t.taken client d r here on) in
+                subst (λ (xs : List Note). IsPrefix (letters_of sender_of client e.taker.taken) (letters_of sender_of client (xs ++ flat_map (sent_by k) es))) fresh.sent began;
+          }
 
-        pub takers_back : (k : ℕ) (b : ReplyBox) → k < length p.inboxes.items → (slice_index_or inboxes k b).whole.takes ≡ true
-        takers_back k b low =
-            let (e, at) = stands es k (let many = called.as_many_ends in let few = ready.boxes.as_many_inboxes in omega arith) in
-            ap (λ w. w.takes) (replies k b e low).whole
+      replies_are : ((k c : ℕ) (d : ClientEnd) (e : BenchEnd) (r : ReplyRoute) → k < length bs → c < length es
+          → AreTakenReplies (slice_index_or es c d) (slice_index_or (slice_index_or bs k e).routes.items c r))
+          → (k c : ℕ) (e : BenchEnd) (d : ClientEnd) → slice_get bs k ≡ Some e → slice_get es c ≡ Some d → IsPrefix (taken_of k d.taker.taken) (replies_to c e.replica.journal)
+      replies_are told k c e d at here =
+          let low = within_replicas k e at in
+          let few = within_clients c d here in
+          let (r, there) = job_there k low in
+          let (b, box) = box_there k low in
+          let j = ready.replicas.each k b r low in
+          let x = replica_end_at k r e at in
+          let (v, on) = stands e.routes.items c (let many = x.as_many in let all = j.as_many in omega arith) in
+          let route = sym (get_or_from_slice_get e.routes.items c v v on) ∙ x.routes c v (let all = j.as_many in omega arith) in
+          let number = ap (λ (w : ReplyRoute). w.pass.number) route ∙ (j.routes c v few).number in
+          let sent = ap (λ (w : ReplyRoute). w.pass.sent) route ∙ ap (λ (xs : List Reply). xs ++ replies_to c e.replica.journal) (j.routes c v few).none in
+          let t = told k c d e v (slice_get_within bs k e at) (slice_get_within es c d here) in
+          let u = subst (λ (y : BenchEnd). AreTakenReplies (slice_index_or es c d) (slice_index_or y.routes.items c v)) (get_or_from_slice_get bs k e e at) t in
+          let w = subst (λ (y : ReplyRoute). AreTakenReplies (slice_index_or es c d) y) (get_or_from_slice_get e.routes.items c v v on) u in
+          let m = subst (λ (y : ClientEnd). AreTakenReplies y v) (get_or_from_slice_get es c d d here) w in
+          let o = subst (λ (n : ℕ). IsPrefix (letters_of replier_of n d.taker.taken) v.pass.sent) number m in
+          subst (λ (xs : List Reply). IsPrefix (letters_of replier_of k d.taker.taken) xs) sent o
 
-        -- the end of a replica fits the inboxes
-        pub replica_fits : (seat : SeatView) (k : ℕ) (e : BenchEnd) (b : NoteBox) → length inboxes ≡ length p.inboxes.items → seat.clock ≡ (arc_value p.clock).id → k < length bs
-            → IsReplicaOf seat (slice_index_or boxes k b) inboxes (slice_index_or bs k e)
-        replica_fits seat k e b same own low =
-            let few : k < p.settings.replicas = let many = as_many in omega arith in
-            let (r, here) = job_there k few in
-            let j = ready.replicas.each k b r few in
-            let x = replica_end k r e few in
-            record {
-              seat_is = ap (λ (v : SeatView). v.clock) x.seat ∙ (j.seat_of ∙ sym own);
-              taker = x.box ∙ (j.taker ∙ ap (λ v. arc_value v) (sym (notes k b (let many = ready.boxes.as_many in omega arith)).post));
-              routes = record {
-                as_many = x.as_many ∙ (j.as_many ∙ (sym ready.boxes.as_many_inboxes ∙ sym same));
-                each = λ client d i within.
-                    let small : client < p.settings.clients = let many = ready.boxes.as_many_inboxes in let all = same in omega arith in
-                    let (c, there) = stands es client (let many = called.as_many_ends in omega arith) in
-                    ap (λ (v : ReplyRoute). v.pass.box) (x.routes client d (let many = j.as_many in omega arith))
-                    ∙ ((j.routes client d small).own ∙ (j.to client d i small ∙ ap (λ v. arc_value v) (sym (replies client i c (let all = same in omega arith)).post)));
-              };
-            }
+      -- what is known of the ends
+      pub ends_are : (seat : SeatView)
+          → HasTickets (flat_map (λ e. e.seat.drawn) es ++ flat_map (λ e. e.seat.drawn) bs) (sum_by (λ e. e.seat.left) es + sum_by (λ e. e.seat.left) bs) p.seat seat
+          → HasNoneTwice seat.drawn
+          → ((k : ℕ) (b : NoteBox) (e : BenchEnd) → k < length p.boxes.items → AreToldNotes k es (slice_index_or p.boxes.items k b) (slice_index_or bs k e))
+          → ((k c : ℕ) (d : ClientEnd) (e : BenchEnd) (r : ReplyRoute) → k < length bs → c < length es
+          → AreTakenReplies (slice_index_or es c d) (slice_index_or (slice_index_or bs k e).routes.items c r))
+          → AreEnds p.settings (plan_in p.clients.items) (places p.settings) called.calls es bs seat.drawn
+      ends_are seat has once told_notes told_replies = record {
+        as_many_clients = called.as_many_ends;
+        as_many_replicas = as_many;
+        client = client_is;
+        replica = replica_is;
+        notes = notes_are told_notes;
+        replies = replies_are told_replies;
+        drawn_is = has.drawn ∙ ap (λ (xs : List ℕ). xs ++ (flat_map (λ e. e.seat.drawn) es ++ flat_map (λ e. e.seat.drawn) bs)) ready.clock.none_drawn;
+        once = once;
+      }
 
-        notes_are : (told : (k : ℕ) (b : NoteBox) (e : BenchEnd) → k < length boxes → IsToldNotes (slice_index_or boxes k b) (slice_index_or bs k e)) → length boxes ≡ length p.boxes.items
-            → (k : ℕ) (e : BenchEnd) → slice_get bs k ≡ Some e → AreNotesOf p.settings k es e
-        notes_are told same k e at =
-            let low = within_replicas k e at in
-            let (b, there) = box_there k low in
-            let n = notes k b (slice_get_within p.boxes.items k b there) in
-            let fresh = ready.boxes.each k b low in
-            let t = subst (λ (x : BenchEnd). IsToldNotes (slice_index_or boxes k b) x) (get_or_from_slice_get bs k e e at) (told k b e (let inside = slice_get_within p.boxes.items k b there in omega arith)) in
-            let given = n.numbers ∙ fresh.numbers in
-            let sent = n.sent ∙ ap (λ (xs : List Note). xs ++ flat_map (sent_by k) es) fresh.sent in
-            record {
-              known = λ client some. let low = below_range client 0 p.settings.clients (subst (λ (xs : List ℕ). 0 < times client xs) given (t.known client some)) in omega arith;
-              taken = λ client few.
-                  let (d, here) = stands es client (let many = called.as_many_ends in omega arith) in
-                  let (r, on) = route_there client k d low here in
-                  let back = subst (λ (m : ℕ). 0 < times m (slice_index_or boxes k b).whole.gathered) (number_is client k d r low here on) (n.gathered client d r here on) in
-                  subst (λ (xs : List Note). IsPrefix (letters_of sender_of client e.taker.taken) (letters_of sender_of client xs)) sent (t.taken client back);
-            }
+      -- the seat has drawn, and may draw, the budget
+      pub budget_is : (seat : SeatView)
+          → HasTickets (flat_map (λ e. e.seat.drawn) es ++ flat_map (λ e. e.seat.drawn) bs) (sum_by (λ e. e.seat.left) es + sum_by (λ e. e.seat.left) bs) p.seat seat
+          → length seat.drawn + seat.left ≡ tickets p.settings
+      budget_is seat has =
+          let drawn = ap (λ (xs : List ℕ). length xs)
+          (has.drawn ∙ ap (λ (xs : List ℕ). xs ++ (flat_map (λ e. e.seat.drawn) es ++ flat_map (λ e. e.seat.drawn) bs)) ready.clock.none_drawn) in
+          let long = length-append (flat_map (λ (e : ClientEnd). e.seat.drawn) es) (flat_map (λ (e : BenchEnd). e.seat.drawn) bs) in
+          let left = has.left in let none = ready.clock.none_left in let all = counted in
+          omega arith
 
-        replies_are : (told : (k c : ℕ) (b : ReplyBox) (e : BenchEnd) (r : ReplyRoute) → k < length bs → c < length inboxes → IsToldReplies (slice_index_or inboxes c b) (slice_index_or (slice_index_or bs k e).routes.items c r))
-            → length inboxes ≡ length p.inboxes.items
-            → (k c : ℕ) (e : BenchEnd) (d : ClientEnd) → slice_get bs k ≡ Some e → slice_get es c ≡ Some d → IsPrefix (taken_of k d.taker.taken) (replies_to c e.replica.journal)
-        replies_are told same k c e d at here =
-            let low = within_replicas k e at in
-            let few = within_clients c d here in
-            let (r, there) = job_there k low in
-            let (b, box) = box_there k low in
-            let (i, inbox) = inbox_there c few in
-            let j = ready.replicas.each k b r low in
-            let x = replica_end_at k r e at in
-            let inside : c < length p.inboxes.items = let many = ready.boxes.as_many_inboxes in omega arith in
-            let (v, on) = stands e.routes.items c (let many = x.as_many in let all = j.as_many in omega arith) in
-            let route = sym (get_or_from_slice_get e.routes.items c v v on) ∙ x.routes c v (let all = j.as_many in omega arith) in
-            let number = ap (λ (w : ReplyRoute). w.pass.number) route ∙ (j.routes c v few).number in
-            let sent = ap (λ (w : ReplyRoute). w.pass.sent) route ∙ ap (λ (xs : List Reply). xs ++ replies_to c e.replica.journal) (j.routes c v few).none in
-            let taken = ap (λ w. w.taken) (replies c i d inside).whole ∙ ap (λ (y : ClientEnd). y.taker.taken) (get_or_from_slice_get es c d d here) in
-            let t = told k c i e v (slice_get_within bs k e at) (let all = same in omega arith) in
-            let u = subst (λ (y : BenchEnd). IsToldReplies (slice_index_or inboxes c i) (slice_index_or y.routes.items c v)) (get_or_from_slice_get bs k e e at) t in
-            let w = subst (λ (y : ReplyRoute). IsToldReplies (slice_index_or inboxes c i) y) (get_or_from_slice_get e.routes.items c v v on) u in
-            let m = subst (λ (n : ℕ). IsPrefix (letters_of replier_of n (slice_index_or inboxes c i).whole.taken) v.pass.sent) number w in
-            let o = subst (λ (xs : List Reply). IsPrefix (letters_of replier_of k xs) v.pass.sent) taken m in
-            subst (λ (xs : List Reply). IsPrefix (letters_of replier_of k d.taker.taken) xs) sent o
-
-        -- what is known of the ends
-        pub ends_are : (first second : SeatView) → HasTickets (flat_map (λ e. e.seat.drawn) es) (sum_by (λ e. e.seat.left) es) p.seat first
-            → HasTickets (flat_map (λ e. e.seat.drawn) bs) (sum_by (λ e. e.seat.left) bs) first second
-            → HasNoneTwice second.drawn
-            → ((k : ℕ) (b : NoteBox) (e : BenchEnd) → k < length boxes → IsToldNotes (slice_index_or boxes k b) (slice_index_or bs k e)) → length boxes ≡ length p.boxes.items
-            → ((k c : ℕ) (b : ReplyBox) (e : BenchEnd) (r : ReplyRoute) → k < length bs → c < length inboxes → IsToldReplies (slice_index_or inboxes c b) (slice_index_or (slice_index_or bs k e).routes.items c r))
-            → length inboxes ≡ length p.inboxes.items
-            → AreEnds p.settings (plan_in p.clients.items) (places p.settings) called.calls es bs second.drawn
-        ends_are first second one two once told_notes same_boxes told_replies same_inboxes = record {
-          as_many_clients = called.as_many_ends;
-          as_many_replicas = as_many;
-          client = client_is;
-          replica = replica_is;
-          notes = notes_are told_notes same_boxes;
-          replies = replies_are told_replies same_inboxes;
-          drawn_is = two.drawn ∙ ap (λ (xs : List ℕ). xs ++ flat_map (λ e. e.seat.drawn) bs) (one.drawn ∙ ap (λ (xs : List ℕ). xs ++ flat_map (λ e. e.seat.drawn) es) ready.clock.none_drawn);
-          once = once;
-        }
-
-        -- the seat has drawn, and may draw, the budget
-        pub budget_is : (first second : SeatView) → HasTickets (flat_map (λ e. e.seat.drawn) es) (sum_by (λ e. e.seat.left) es) p.seat first
-            → HasTickets (flat_map (λ e. e.seat.drawn) bs) (sum_by (λ e. e.seat.left) bs) first second → length second.drawn + second.left ≡ (arc_value p.clock).budget
-        budget_is first second one two =
-            let drawn = ap (λ (xs : List ℕ). length xs) (two.drawn ∙ ap (λ (xs : List ℕ). xs ++ flat_map (λ e. e.seat.drawn) bs) (one.drawn ∙ ap (λ (xs : List ℕ). xs ++ flat_map (λ e. e.seat.drawn) es) ready.clock.none_drawn)) in
-            let long = length-append (flat_map (λ (e : ClientEnd). e.seat.drawn) es) (flat_map (λ (e : BenchEnd). e.seat.drawn) bs) in
-            let left = two.left in let more = one.left in let none = ready.clock.none_left in let all = counted in
-            (let sum : length second.drawn + second.left ≡ tickets p.settings = omega arith in sum) ∙ sym ready.clock.budget
-
-        -- what is left of the run
-        pub recorded_out : (seat : SeatView) (journals : List (List JournalEntry)) → journals ≡ journals_of bs
-            → AreEnds p.settings (plan_in p.clients.items) (places p.settings) called.calls es bs seat.drawn → IsOneToLength seat.drawn
-            → IsRecordedOut (record { settings = p.settings; plan = plan_in p.clients.items }) (record { logs = gs; journals = journals; seat = seat })
-        recorded_out seat journals are ends once =
-            let s = p.settings in let plan = plan_in p.clients.items in
-            let room : s.clients * (2 * s.calls) ≤ places s = let same = twice_inside s.clients s.calls in omega arith in
-            let parts = ends_are_parts s plan (places s) called.calls es bs seat.drawn ready.whole room ends in
-            let logged = logged_are_calls s called.calls (λ (g : LogView). entries_in g.taken) gs ready.limits.shards.0 called.as_many_logs
-            (λ k g at. subst (λ (x : LogView). AreLogged s called.calls k (entries_in x.taken)) (get_or_from_slice_get gs k g g at)
-            (called.each_log k g (let within = slice_get_within gs k g at in let many = called.as_many_logs in omega arith))) in
-            let same = λ (entries : List Entry) (collected : IsCollected (logged_in gs) entries). IsPermutation-trans (calls_of_all s called.calls) (logged_in gs) entries logged collected.same in
-            record {
-              recorded = λ entries collected. rw are (parts_are_recorded s plan (places s) called.calls (λ c. taken_in (slice_get es c)) (λ r. came_in (slice_get bs r)) (journals_of bs) entries
-                  ready.limits parts (same entries collected) collected.by_start);
-              tickets = λ entries collected. rw are (subst (λ (xs : List ℕ). IsPermutation (tickets_of entries (journals_of bs)) xs)
-                  (tickets_are s plan (places s) called.calls es bs seat.drawn ready.whole room ends)
-                  (IsPermutation-sym (tickets_of (calls_of_all s called.calls) (journals_of bs)) (tickets_of entries (journals_of bs)) (tickets_of_parts s called.calls (journals_of bs) entries (same entries collected))));
-              once = once;
-            }
+      -- what is left of the run
+      pub recorded_out : (seat : SeatView) (journals : List (List JournalEntry)) → journals ≡ journals_of bs
+          → AreEnds p.settings (plan_in p.clients.items) (places p.settings) called.calls es bs seat.drawn → IsOneToLength seat.drawn → length seat.drawn ≤ tickets p.settings
+          → IsRecordedOut (record { settings = p.settings; plan = plan_in p.clients.items }) (record { logs = gs; journals = journals; seat = seat })
+      recorded_out seat journals are ends once few =
+          let s = p.settings in let plan = plan_in p.clients.items in
+          let room : s.clients * (2 * s.calls) ≤ places s = let same = twice_inside s.clients s.calls in omega arith in
+          let parts = ends_are_parts s plan (places s) called.calls es bs seat.drawn ready.whole room ends in
+          let logged = logged_are_calls s called.calls (λ (g : LogView). entries_in g.taken) gs ready.limits.shards.0 called.as_many_logs
+          (λ k g at. subst (λ (x : LogView). AreLogged s called.calls k (entries_in x.taken)) (get_or_from_slice_get gs k g g at)
+          (called.each_log k g (let within = slice_get_within gs k g at in let many = called.as_many_logs in omega arith))) in
+          let same = λ (entries : List Entry) (collected : IsCollected (logged_in gs) entries). IsPermutation-trans (all_calls s called.calls) (logged_in gs) entries logged collected.same in
+          record {
+            recorded = λ entries collected. rw are (parts_are_recorded s plan (places s) called.calls (λ c. taken_in (slice_get es c)) (λ r. came_in (slice_get bs r)) (journals_of bs) entries
+                ready.limits parts (same entries collected) collected.by_start);
+            tickets = λ entries collected. rw are (subst (λ (xs : List ℕ). IsPermutation (tickets_of entries (journals_of bs)) xs)
+                (tickets_are s plan (places s) called.calls es bs seat.drawn ready.whole room ends)
+                (IsPermutation-sym (tickets_of (all_calls s called.calls) (journals_of bs)) (tickets_of entries (journals_of bs)) (tickets_of_parts s called.calls (journals_of bs) entries (same entries collected))));
+            once = once;
+            few = few;
+          }

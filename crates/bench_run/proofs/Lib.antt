@@ -17,4 +17,5 @@ pub mod ReadyMembers
 pub mod Settling
 pub mod EndedClients
 pub mod Joined
+pub mod BothTaken
 pub mod Driven

@@ -18,12 +18,8 @@ pub ready_boxes : (s : Settings) (boxes : List NoteBox) (inboxes : List ReplyBox
 ready_boxes s boxes inboxes many many_inboxes notes replies = record {
   as_many = many;
   as_many_inboxes = many_inboxes;
-  each = λ k b less.
-      let given = notes k b (omega (arith, many, less)) in
-      record { own = given.own; numbers = given.numbers; gathered = given.gathered; sent = given.sent };
-  each_inbox = λ k b less.
-      let given = replies k b (omega (arith, many_inboxes, less)) in
-      record { own = given.own; numbers = given.numbers; gathered = given.gathered; sent = given.sent };
+  each = λ k b less. notes k b (omega (arith, many, less));
+  each_inbox = λ k b less. replies k b (omega (arith, many_inboxes, less));
 }
 
 -- the parts of the clients, where the boxes are the same

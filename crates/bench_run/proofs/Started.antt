@@ -44,7 +44,7 @@ module _ (all done left : List JobParts) (p : JobParts) (job : JobView) (next : 
   module _ (old now new : CrewView JobView) (so : AreStarted (map view_of done) old now) where
     -- the numbers of those that were started
     begun_is : now.begun ≡ old.begun ++ range_with_len 0 job.replica.number
-    begun_is = so.begun ∙ ap (λ (n : ℕ). old.begun ++ range_with_len 0 n) (length-map done view_of ∙ sym next.number)
+    begun_is = so.all_begun.begun ∙ ap (λ (n : ℕ). old.begun ++ range_with_len 0 n) (length-map done view_of ∙ sym next.number)
 
     -- it is started
     pub started_more : IsStarted job job.replica.number now new → AreStarted (map view_of (done ++ p ∷ [])) old new
@@ -60,12 +60,14 @@ module _ (all done left : List JobParts) (p : JobParts) (job : JobView) (next : 
           jobs_are = more.jobs
               ∙ (ap (λ (l : List JobView). l ++ job ∷ []) so.jobs_are
               ∙ (ap (λ (j : JobView). map view_of done ++ j ∷ []) next.job_is ∙ sym (map_push view_of done p)));
-          begun = more.begun
-              ∙ (ap (λ (l : List ℕ). l ++ n ∷ []) begun_is
-              ∙ (append_assoc old.begun (range_with_len 0 n) (n ∷ [])
-              ∙ ap (λ (l : List ℕ). old.begun ++ l) (range ∙ ap (λ (m : ℕ). range_with_len 0 m) many)));
-          count = more.count ∙ so.count;
-          last = more.last ∙ so.last;
+          all_begun = record {
+            begun = more.begun
+                ∙ (ap (λ (l : List ℕ). l ++ n ∷ []) begun_is
+                ∙ (append_assoc old.begun (range_with_len 0 n) (n ∷ [])
+                ∙ ap (λ (l : List ℕ). old.begun ++ l) (range ∙ ap (λ (m : ℕ). range_with_len 0 m) many)));
+            count = more.count ∙ so.all_begun.count;
+            last = more.last ∙ so.all_begun.last;
+          };
         }
 
     -- it is refused
@@ -82,9 +84,11 @@ module _ (all done left : List JobParts) (p : JobParts) (job : JobView) (next : 
         ∙ (ap (λ (l : List JobView). take n l) (map-append view_of done (p ∷ left)) ∙ take_at (map view_of done) (map view_of (p ∷ left)) n many)
         in
         subst (λ (m : ℕ). IsStoppedAt (map view_of all) m old new) (sym mark_is) (record {
-          within = omega arith;
           jobs_are = refused.jobs ∙ (so.jobs_are ∙ sym front);
-          begun = refused.begun ∙ begun_is;
-          count = rw (sym so.count) refused.count;
-          last = refused.last;
+          refused = record {
+            within = omega arith;
+            begun = refused.begun ∙ begun_is;
+            count = rw (sym so.all_begun.count) refused.count;
+            last = refused.last;
+          };
         })

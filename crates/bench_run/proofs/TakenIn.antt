@@ -67,8 +67,8 @@ tickets_none s = record {
   left = omega arith;
 }
 
--- the tickets of one seat more
-tickets_push : (xs ys : List ℕ) (m n : ℕ) (a b c : SeatView) → HasTickets xs m a b → HasTickets ys n b c → HasTickets (xs ++ ys) (m + n) a c
+-- the tickets of some seats, and then of others
+pub tickets_push : (xs ys : List ℕ) (m n : ℕ) (a b c : SeatView) → HasTickets xs m a b → HasTickets ys n b c → HasTickets (xs ++ ys) (m + n) a c
 tickets_push xs ys m n a b c first second = record {
   clock = second.clock ∙ first.clock;
   drawn = second.drawn ∙ (ap (λ (l : List ℕ). l ++ ys) first.drawn ∙ append_assoc a.drawn xs ys);

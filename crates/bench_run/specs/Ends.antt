@@ -88,6 +88,16 @@ pub record IsToldNotes (b : NoteBox) (e : BenchEnd) : Type 0 where
 abbrev pub IsToldReplies : ReplyBox → ReplyRoute → Type 0
 IsToldReplies b r = IsPrefix (letters_of replier_of r.pass.number b.whole.taken) r.pass.sent
 
+-- what the end of a replica tells of its box and of the ends of all clients: of each client it took a beginning of what was sent, and it took of clients alone whose numbers were given out
+pub record AreToldNotes (replica : ℕ) (clients : List ClientEnd) (b : NoteBox) (e : BenchEnd) : Type 0 where
+  pub known : (s : ℕ) → 0 < length (letters_of sender_of s e.taker.taken) → 0 < times s b.whole.numbers
+  pub taken : (k : ℕ) (c : ClientEnd) (r : Route) → slice_get clients k ≡ Some c → slice_get c.routes replica ≡ Some r
+      → IsPrefix (letters_of sender_of r.pass.number e.taker.taken) (letters_of sender_of r.pass.number (b.whole.sent ++ flat_map (sent_by replica) clients))
+
+-- what it tells of the end of a client: the client took of this replica a beginning of what was sent on its route
+abbrev pub AreTakenReplies : ClientEnd → ReplyRoute → Type 0
+AreTakenReplies c r = IsPrefix (letters_of replier_of r.pass.number c.taker.taken) r.pass.sent
+
 -- an inbox of which all but the senders that came back is as before
 pub record IsSameInbox (before after : ReplyBox) : Type 0 where
   pub post : after.post ≡ before.post

@@ -1,7 +1,6 @@
 -- What each replica and each client of a run needs before it starts.
 use Rattle.std.specs.Prelude.{◌≡◌, ℕ, ◌+◌, ◌*◌, ◌<◌, List, [], length, map, slice_index_or, vec_len}
 use Rattle.std.specs.Arc.{arc_value}
-use Rattle.std.specs.List.{range_with_len}
 use Rattle.ticket_clock.specs.Seats.{ClockView, SeatView}
 use Rattle.stale_model.specs.declared.store.Settings.{Settings}
 use Rattle.stale_model.specs.declared.store.Plan.{Plan}
@@ -14,32 +13,19 @@ use Rattle.bench_run.specs.declared.job.JobParts.{JobParts}
 use Rattle.bench_run.specs.declared.parts.ClientParts.{ClientParts}
 use Rattle.bench_run.specs.Jobs.{JobView, IsFreshReplyRoute}
 use Rattle.bench_run.specs.JobSteps.{view_of, IsFreshJob}
+use Rattle.bench_run.specs.Openings.{AreNotesGiven, AreRepliesGiven}
 
 -- how many calls all clients make
-abbrev pub all_calls : Settings → ℕ
-all_calls s = s.clients * s.calls
+abbrev pub call_count : Settings → ℕ
+call_count s = s.clients * s.calls
 
 -- how many requests and repairs a replica may be sent
 abbrev pub places : Settings → ℕ
-places s = 2 * all_calls s
+places s = 2 * call_count s
 
 -- how many tickets a run may draw: two a call, and one for each request and repair at each replica
 abbrev pub tickets : Settings → ℕ
-tickets s = all_calls s * (2 * s.replicas + 2)
-
--- the box of a replica, once every client has its sender: nothing is back
-pub record IsFreshNotes (s : Settings) (b : NoteBox) : Type 0 where
-  pub own : b.whole.box ≡ arc_value b.post
-  pub numbers : b.whole.numbers ≡ range_with_len 0 s.clients
-  pub gathered : b.whole.gathered ≡ []
-  pub sent : b.whole.sent ≡ []
-
--- the inbox of a client, once every replica has its sender: nothing is back
-pub record IsFreshReplies (s : Settings) (b : ReplyBox) : Type 0 where
-  pub own : b.whole.box ≡ arc_value b.post
-  pub numbers : b.whole.numbers ≡ range_with_len 0 s.replicas
-  pub gathered : b.whole.gathered ≡ []
-  pub sent : b.whole.sent ≡ []
+tickets s = call_count s * (2 * s.replicas + 2)
 
 -- what replica k needs: its box is the given one, and its routes are to the given inboxes
 pub record IsReadyReplica (s : Settings) (clock : ClockView) (k : ℕ) (box : NoteBox) (inboxes : List ReplyBox) (j : JobView) : Type 0 where
@@ -89,8 +75,8 @@ pub record AreReadyReplicas (s : Settings) (clock : ClockView) (boxes : List Not
 pub record AreReadyBoxes (s : Settings) (boxes : List NoteBox) (inboxes : List ReplyBox) : Type 0 where
   pub as_many : length boxes ≡ s.replicas
   pub as_many_inboxes : length inboxes ≡ s.clients
-  pub each : (k : ℕ) (b : NoteBox) → k < s.replicas → IsFreshNotes s (slice_index_or boxes k b)
-  pub each_inbox : (k : ℕ) (b : ReplyBox) → k < s.clients → IsFreshReplies s (slice_index_or inboxes k b)
+  pub each : (k : ℕ) (b : NoteBox) → k < s.replicas → AreNotesGiven s.clients 0 (slice_index_or boxes k b)
+  pub each_inbox : (k : ℕ) (b : ReplyBox) → k < s.clients → AreRepliesGiven s.replicas 0 (slice_index_or inboxes k b)
 
 -- the clock has all tickets, and its first seat none
 pub record IsReadyClock (s : Settings) (clock : ClockView) (seat : SeatView) : Type 0 where

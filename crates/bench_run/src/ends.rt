@@ -1,6 +1,6 @@
 //! The ends of a run: its seats join, and its passes go back to their boxes, which tells what was taken.
 ghost use Rattle.std.specs.Prelude.{◌≡◌, ℕ, ◌+◌, ◌<◌, ◌≤◌, true, [], ◌∷◌, ◌++◌, length, map, flat_map, sum_by, slice_index_or, vec_len, vec_capacity};
-ghost use Rattle.bench_run.specs.Ends.{IsOwnNotes, IsOwnReplies, IsClientOf, IsReplicaOf, AreNoteRoutes, AreReplyRoutes, HasReplies, HasNotes, IsToldNotes, IsToldReplies, IsSameInbox, HasTickets, with_route};
+ghost use Rattle.bench_run.specs.Ends.{IsOwnNotes, IsOwnReplies, IsClientOf, IsReplicaOf, AreNoteRoutes, AreReplyRoutes, HasReplies, HasNotes, IsToldNotes, IsToldReplies, AreToldNotes, AreTakenReplies, IsSameInbox, HasTickets, with_route};
 
 use crate::boxes::{NoteBox, ReplyBox};
 use crate::job::{BenchEnd, ReplyRoute};
@@ -9,9 +9,43 @@ use stale_model::{JournalEntry, List};
 use std::sync::Wait;
 use ticket_clock::{Clock, Seat};
 
-/// The ends of the clients, client by client: their seats join, their takers go back to their inboxes, and their senders
-/// to the boxes of the replicas.
-pub(crate) fn take_in_clients<R: Wait>(
+/// The ends of the clients, and then those of the replicas: their seats join, all passes go back to their boxes, and the
+/// journals of the replicas stand one after the other.
+pub(crate) fn take_in<R: Wait>(
+    rt: &R,
+    clock: &Clock,
+    seat: &mut Seat,
+    inboxes: &mut [ReplyBox],
+    boxes: &mut [NoteBox],
+    journals: &mut Vec<List<JournalEntry>>,
+    client_ends: Vec<ClientEnd>,
+    ends: Vec<BenchEnd>,
+)
+    requires own { seat.old.clock ≡ clock.now.id }
+    requires many_clients { vec_len client_ends ≡ length inboxes.old }
+    requires many { vec_len ends ≡ length boxes.old }
+    requires inboxes { (k : ℕ) (b : ReplyBox) → k < length inboxes.old → IsOwnReplies (slice_index_or inboxes.old k b) }
+    requires boxes { (k : ℕ) (b : NoteBox) → k < length boxes.old → IsOwnNotes (slice_index_or boxes.old k b) }
+    requires clients { (k : ℕ) (e : ClientEnd) (b : ReplyBox) → k < vec_len client_ends
+        → IsClientOf seat.old (slice_index_or inboxes.old k b) boxes.old (slice_index_or client_ends.items k e) }
+    requires replicas { (k : ℕ) (e : BenchEnd) (b : NoteBox) → k < vec_len ends
+        → IsReplicaOf seat.old (slice_index_or boxes.old k b) inboxes.old (slice_index_or ends.items k e) }
+    requires room { vec_len journals.old + vec_len ends ≤ vec_capacity journals.old }
+    ensures seat { HasTickets (flat_map (λ e. e.seat.drawn) client_ends.items ++ flat_map (λ e. e.seat.drawn) ends.items)
+        (sum_by (λ e. e.seat.left) client_ends.items + sum_by (λ e. e.seat.left) ends.items) seat.old seat.new }
+    ensures notes { (k : ℕ) (b : NoteBox) (e : BenchEnd) → k < length boxes.old
+        → AreToldNotes k client_ends.items (slice_index_or boxes.old k b) (slice_index_or ends.items k e) }
+    ensures replies { (k c : ℕ) (d : ClientEnd) (e : BenchEnd) (r : ReplyRoute) → k < vec_len ends → c < vec_len client_ends
+        → AreTakenReplies (slice_index_or client_ends.items c d) (slice_index_or (slice_index_or ends.items k e).routes.items c r) }
+    ensures journals { journals.new.items ≡ journals.old.items ++ map (λ e. e.replica.journal) ends.items }
+{
+    take_in_clients(rt, clock, seat, inboxes, boxes, client_ends);
+    take_in_replicas(rt, clock, seat, boxes, inboxes, journals, ends);
+}
+
+// The ends of the clients, client by client: their seats join, their takers go back to their inboxes, and their senders
+// to the boxes of the replicas.
+fn take_in_clients<R: Wait>(
     rt: &R,
     clock: &Clock,
     seat: &mut Seat,
@@ -79,9 +113,9 @@ fn take_in_route<R: Wait>(rt: &R, to: &mut NoteBox, route: Route)
     to.post.gather_sender(rt, &mut to.whole, route.pass);
 }
 
-/// The ends of the replicas, replica by replica: their seats join, their takers go back to their boxes, their senders to
-/// the inboxes of the clients, and their journals stand one after the other.
-pub(crate) fn take_in_replicas<R: Wait>(
+// The ends of the replicas, replica by replica: their seats join, their takers go back to their boxes, their senders to
+// the inboxes of the clients, and their journals stand one after the other.
+fn take_in_replicas<R: Wait>(
     rt: &R,
     clock: &Clock,
     seat: &mut Seat,

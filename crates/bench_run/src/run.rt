@@ -5,7 +5,7 @@ ghost use Rattle.bench_run.specs.Jobs.{JobView, IsServedOut};
 ghost use Rattle.bench_run.specs.Drive.{AreBegun, IsRefusedAt, IsRecordedOut};
 
 use crate::clients::run_clients;
-use crate::ends::{take_in_clients, take_in_replicas};
+use crate::ends::take_in;
 use crate::job::{BenchEnd, BenchJob};
 use crate::prepared::Prepared;
 use crate::starts::{start_all, stop};
@@ -48,8 +48,8 @@ pub fn drive<R: Threads + Wait + Copy + Send + Sync + 'static, G: Gate>(
     requires none { crew.old.jobs ≡ [] }
     ensures joined { crew.new.jobs ≡ [] }
     ensures recorded { IfOk result (IsRecordedOut prepared) }
-    ensures begun { OnOk result (AreBegun prepared.settings crew.old crew.new) }
-    ensures stopped { IfErr result (λ s. IsRefusedAt prepared.settings s.replica crew.old crew.new) }
+    ensures begun { OnOk result (AreBegun prepared.settings.replicas crew.old crew.new) }
+    ensures stopped { IfErr result (λ s. IsRefusedAt prepared.settings.replicas s.replica crew.old crew.new) }
 {
     let Prepared {
         settings,
@@ -63,36 +63,27 @@ pub fn drive<R: Threads + Wait + Copy + Send + Sync + 'static, G: Gate>(
         passes,
         mut logs,
         runners,
-        client_ends,
-        ends,
+        client_ends: called,
+        ends: served,
         mut journals,
     } = prepared;
     if let Err(stopped) = start_all(rt, crew, replicas) {
         stop(rt, crew, clients, stopped.replica);
         return Err(stopped);
     }
-    let client_ends = run_clients(
-        rt,
-        gate,
-        &settings,
-        &clock,
-        &recorder,
-        clients,
-        passes,
-        &mut logs,
-        runners,
-        client_ends,
+    let called = run_clients(
+        rt, gate, &settings, &clock, &recorder, clients, passes, &mut logs, runners, called,
     );
-    let ends = join_all(crew, ends, settings.replicas);
-    take_in_clients(rt, &clock, &mut seat, &mut inboxes, &mut boxes, client_ends);
-    take_in_replicas(
+    let served = join_all(crew, served, settings.replicas);
+    take_in(
         rt,
         &clock,
         &mut seat,
-        &mut boxes,
         &mut inboxes,
+        &mut boxes,
         &mut journals,
-        ends,
+        called,
+        served,
     );
     clock.look(&mut seat);
     Ok(Run {
