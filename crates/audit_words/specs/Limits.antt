@@ -1,8 +1,10 @@
 -- The limits of the numbers of a task.
-use Rattle.std.specs.Prelude.{ℕ, ◌≤◌, ⊤}
+use Rattle.std.specs.Prelude.{ℕ, ◌≤◌, ◌≢◌, ⊤}
+use Rattle.stale_model.specs.Settings.{AreSettings}
 use Rattle.audit_words.specs.declared.Task.{Task}
 use Rattle.audit_words.specs.declared.Task.TheVariants.{Audit, Check, Gen, Trial}
 use Rattle.audit_words.specs.declared.Workload.{Workload}
+use Rattle.audit_words.specs.declared.bench.Bench.{Bench}
 
 -- the numbers of a generated history are within their limits
 pub record IsWorkload (workload : Workload) : Type 0 where
@@ -22,3 +24,9 @@ IsWithin (Audit file cert workers) = AreWorkers workers
 IsWithin (Check file cert) = ⊤
 IsWithin (Gen workload) = IsWorkload workload
 IsWithin (Trial workload workers) = IsWorkload workload × AreWorkers workers
+
+-- a run of the store has settings within their limits, workers for its audit, and two files
+pub record IsBench (bench : Bench) : Type 0 where
+  pub settings : AreSettings bench.settings
+  pub workers : AreWorkers bench.workers
+  pub apart : bench.history ≢ bench.journal

@@ -1,8 +1,9 @@
 -- The form of the command line, as the port of `clap` sees it.
-use Rattle.std.specs.Prelude.{◌||◌, true, Bool, List, [], ◌∷◌, Some, codes}
+use Rattle.std.specs.Prelude.{◌||◌, true, Bool, if◌then◌else◌, List, [], ◌∷◌, fold, map, Option, Some, None, codes}
 use Rattle.std.specs.List.{list_all, list_any}
 use Rattle.std.specs.Str.{bytes_eq}
-use Rattle.clap.specs.Words.{App, Row, Rule, Text, new_app, new_rule}
+use Rattle.clap.specs.Words.{App, Row, Rule, Text, fault_of, matches_of, new_app, new_rule, with_rule}
+use Rattle.clap.specs.Walk.{is_empty}
 use Rattle.clap.specs.declared.builder.ArgAction.TheVariants.{Append}
 
 -- the mode has to be there
@@ -17,12 +18,22 @@ args_rule = record (new_rule (codes "args")) { action = Some Append }
 abbrev pub option_rule : Text → Rule
 option_rule name = record (new_rule name) { long = Some name }
 
+-- a command with these options too, in their order
+abbrev pub with_options : List Text → App → App
+with_options names command = fold (λ made name. with_rule made (option_rule name)) command names
+
+-- the options of a run of the store
+abbrev pub bench_options : List Text
+bench_options =
+    codes "workers" ∷ codes "clients" ∷ codes "replicas" ∷ codes "calls" ∷ codes "keys" ∷ codes "read-quorum" ∷ codes "write-quorum" ∷ codes "writes"
+    ∷ codes "seed" ∷ codes "shards" ∷ []
+
 -- the command line, without the name of the program: a mode, its arguments, and the options
 abbrev pub command_line : App
 command_line = record (new_app (codes "audit_program")) {
   top = record ((new_app (codes "audit_program")).top) {
     no_binary_name = true;
-    rules = mode_rule ∷ args_rule ∷ option_rule (codes "cert") ∷ option_rule (codes "workers") ∷ [];
+    rules = mode_rule ∷ args_rule ∷ map option_rule (codes "cert" ∷ bench_options);
   };
 }
 
@@ -33,3 +44,7 @@ is_among options id = bytes_eq id (codes "mode") || bytes_eq id (codes "args") |
 -- whether no options but these are given
 abbrev pub gives_only : List Text → List Row → Bool
 gives_only options rows = list_all (λ row. is_among options row.id) rows
+
+-- the entries of the words; none where the command line does not take them
+abbrev pub entries_of : List Text → Option (List Row)
+entries_of words = if is_empty (fault_of command_line words) then Some (matches_of command_line words) else None

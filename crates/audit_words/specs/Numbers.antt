@@ -27,7 +27,11 @@ within least most number = if nat_le least number && nat_le number most then Som
 abbrev pub number_within : ℕ → ℕ → Text → Option ℕ
 number_within least most text = option_and_then (within least most) (number_of text)
 
+-- the number of an option: this default where it is not given, and else from least to most
+abbrev pub number_or : ℕ → ℕ → ℕ → Option Text → Option ℕ
+number_or default least most None = Some default
+number_or default least most (Some text) = number_within least most text
+
 -- the number of workers: 1 where the words say none, and else 1 to 64
 abbrev pub workers_of : Option Text → Option ℕ
-workers_of None = Some 1
-workers_of (Some text) = number_within 1 64 text
+workers_of = number_or 1 1 64

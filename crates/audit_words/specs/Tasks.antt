@@ -1,12 +1,11 @@
 -- What the words of a command line ask for.
-use Rattle.std.specs.Prelude.{ℕ, ◌&&◌, if◌then◌else◌, List, [], ◌∷◌, Option, Some, None, option_map, codes}
+use Rattle.std.specs.Prelude.{ℕ, ◌&&◌, if◌then◌else◌, List, [], ◌∷◌, Option, Some, None, option_map, option_and_then, codes}
 use Rattle.std.specs.Str.{bytes_eq}
-use Rattle.clap.specs.Words.{Row, Text, all_of, first_of, fault_of, matches_of}
-use Rattle.clap.specs.Walk.{is_empty}
+use Rattle.clap.specs.Words.{Row, Text, all_of, first_of}
 use Rattle.audit_words.specs.declared.Task.{Task}
 use Rattle.audit_words.specs.declared.Task.TheVariants.{Audit, Check, Gen, Trial}
 use Rattle.audit_words.specs.declared.Workload.{Workload}
-use Rattle.audit_words.specs.Line.{command_line, gives_only}
+use Rattle.audit_words.specs.Line.{entries_of, gives_only}
 use Rattle.audit_words.specs.Numbers.{number_within, workers_of}
 use Rattle.audit_words.specs.Files.{is_name, are_two_names}
 
@@ -74,4 +73,4 @@ task_in rows = task_by (first_of (codes "mode") rows) rows
 
 -- what the words ask for; nothing where the command line does not take them, or takes them in vain
 abbrev pub task_of : List Text → Option Task
-task_of words = if is_empty (fault_of command_line words) then task_in (matches_of command_line words) else None
+task_of words = option_and_then task_in (entries_of words)

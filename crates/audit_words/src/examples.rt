@@ -2,8 +2,9 @@
 
 ghost use Rattle.std.specs.Prelude.{◌≡◌, ◌∷◌, [], Some, None, codes};
 ghost use Rattle.audit_words.specs.declared.Task.TheVariants.{Audit, Check, Gen, Trial};
+ghost use Rattle.audit_words.specs.Benches.{bench_of};
 ghost use Rattle.audit_words.specs.Tasks.{task_of};
-ghost use Rattle.audit_words.specs.Examples.{asked_by, workload};
+ghost use Rattle.audit_words.specs.Examples.{asked_by, default_settings, run, run_asked_by, settings, workload};
 
 /// A file, and nothing else.
 pub fn modes_alone()
@@ -33,9 +34,13 @@ pub fn wrong_modes()
     ensures file_first { asked_by (codes "h audit") ≡ None }
 {}
 
-/// Modes that are not there.
-pub fn later_modes()
-    ensures bench { asked_by (codes "bench h h") ≡ None }
+/// A run of the store is no task, and no other mode is a run.
+pub fn runs_and_other_modes()
+    ensures bench { asked_by (codes "bench h j") ≡ None }
+    ensures audit { run_asked_by (codes "audit h") ≡ None }
+    ensures check { run_asked_by (codes "check h j") ≡ None }
+    ensures capital { run_asked_by (codes "Bench h j") ≡ None }
+    ensures no_mode { run_asked_by (codes "h j") ≡ None }
 {}
 
 /// `audit` has one file, and `check` has two.
@@ -125,7 +130,8 @@ pub fn wrong_options()
     ensures workers_twice { asked_by (codes "audit h --workers 2 --workers 2") ≡ None }
     ensures check_workers { asked_by (codes "check h c --workers 2") ≡ None }
     ensures check_cert { asked_by (codes "check h c --cert d") ≡ None }
-    ensures unknown { asked_by (codes "audit h --seed 1") ≡ None }
+    ensures audit_seed { asked_by (codes "audit h --seed 1") ≡ None }
+    ensures unknown { asked_by (codes "audit h --colour 1") ≡ None }
     ensures shortened { asked_by (codes "audit h --work 2") ≡ None }
     ensures one_letter { asked_by (codes "audit h -c c") ≡ None }
     ensures no_value { asked_by (codes "audit h --cert") ≡ None }
@@ -158,4 +164,72 @@ pub fn after_the_options()
     ensures between { asked_by (codes "check h -- c") ≡ Some (Check (codes "h") (codes "c")) }
     ensures twice { asked_by (codes "audit -- --") ≡ Some (Audit (codes "--") None 1) }
     ensures no_option { asked_by (codes "audit h -- --workers 2") ≡ None }
+{}
+
+/// The settings of a run where the words say none of them, some, or all.
+pub fn settings_of_runs()
+    ensures none { run_asked_by (codes "bench h j") ≡ Some (run default_settings 1) }
+    ensures some { run_asked_by (codes "--seed=9 bench h --workers 8 j --keys 007")
+        ≡ Some (run (record default_settings { seed = 9; keys = 7 }) 8) }
+    ensures all { run_asked_by (codes "bench h j --clients 5 --replicas 6 --calls 20 --keys 3 --read-quorum 2 --write-quorum 4 --writes 30 --seed 9 --shards 7 --workers 8")
+        ≡ Some (run (settings 5 6 20 3 2 4 30 9 7) 8) }
+{}
+
+/// The least and the greatest settings.
+pub fn limits_of_runs()
+    ensures least { run_asked_by (codes "bench h j --clients 1 --replicas 1 --calls 1 --keys 1 --read-quorum 1 --write-quorum 1 --writes 0 --seed 0 --shards 1 --workers 1")
+        ≡ Some (run (settings 1 1 1 1 1 1 0 0 1) 1) }
+    ensures most { run_asked_by (codes "bench h j --clients 32 --replicas 7 --calls 3125 --keys 1000 --read-quorum 7 --write-quorum 7 --writes 100 --seed 18446744073709551615 --shards 16 --workers 64")
+        ≡ Some (run (settings 32 7 3125 1000 7 7 100 18446744073709551615 16) 64) }
+    ensures most_calls { run_asked_by (codes "bench h j --clients 1 --calls 100000")
+        ≡ Some (run (record default_settings { clients = 1; calls = 100000 }) 1) }
+    ensures quorums { run_asked_by (codes "bench h j --read-quorum 3 --write-quorum 3")
+        ≡ Some (run (record default_settings { read_quorum = 3; write_quorum = 3 }) 1) }
+{}
+
+/// No number of a run is below its limits.
+pub fn runs_below_their_limits()
+    ensures clients { run_asked_by (codes "bench h j --clients 0") ≡ None }
+    ensures replicas { run_asked_by (codes "bench h j --replicas 0") ≡ None }
+    ensures calls { run_asked_by (codes "bench h j --calls 0") ≡ None }
+    ensures keys { run_asked_by (codes "bench h j --keys 0") ≡ None }
+    ensures read_quorum { run_asked_by (codes "bench h j --read-quorum 0") ≡ None }
+    ensures write_quorum { run_asked_by (codes "bench h j --write-quorum 0") ≡ None }
+    ensures shards { run_asked_by (codes "bench h j --shards 0") ≡ None }
+    ensures workers { run_asked_by (codes "bench h j --workers 0") ≡ None }
+{}
+
+/// And none is above them.
+pub fn runs_above_their_limits()
+    ensures clients { run_asked_by (codes "bench h j --clients 33") ≡ None }
+    ensures replicas { run_asked_by (codes "bench h j --replicas 8") ≡ None }
+    ensures keys { run_asked_by (codes "bench h j --keys 1001") ≡ None }
+    ensures writes { run_asked_by (codes "bench h j --writes 101") ≡ None }
+    ensures seed { run_asked_by (codes "bench h j --seed 18446744073709551616") ≡ None }
+    ensures shards { run_asked_by (codes "bench h j --shards 17") ≡ None }
+    ensures workers { run_asked_by (codes "bench h j --workers 65") ≡ None }
+{}
+
+/// All clients together make at most 100,000 calls, and no quorum is above the number of replicas.
+pub fn runs_that_are_not_possible()
+    ensures calls_of_one { run_asked_by (codes "bench h j --clients 1 --calls 100001") ≡ None }
+    ensures calls_of_two { run_asked_by (codes "bench h j --calls 50001") ≡ None }
+    ensures calls_of_all { run_asked_by (codes "bench h j --clients 32 --calls 3126") ≡ None }
+    ensures read_quorum { run_asked_by (codes "bench h j --read-quorum 4") ≡ None }
+    ensures write_quorum { run_asked_by (codes "bench h j --write-quorum 4") ≡ None }
+    ensures one_replica { run_asked_by (codes "bench h j --replicas 1 --write-quorum 2") ≡ None }
+{}
+
+/// Words that are wrong for a run: its files, and options that are not its own, come twice or are no numbers.
+pub fn wrong_runs()
+    ensures no_file { run_asked_by (codes "bench") ≡ None }
+    ensures one_file { run_asked_by (codes "bench h") ≡ None }
+    ensures same_file { run_asked_by (codes "bench h h") ≡ None }
+    ensures three_files { run_asked_by (codes "bench h j k") ≡ None }
+    ensures empty_file { bench_of (codes "bench" ∷ codes "h" ∷ [] ∷ []) ≡ None }
+    ensures cert { run_asked_by (codes "bench h j --cert c") ≡ None }
+    ensures twice { run_asked_by (codes "bench h j --seed 1 --seed 1") ≡ None }
+    ensures no_number { run_asked_by (codes "bench h j --seed one") ≡ None }
+    ensures too_many_digits { run_asked_by (codes "bench h j --seed 000000000000000000001") ≡ None }
+    ensures shortened { run_asked_by (codes "bench h j --write 1") ≡ None }
 {}

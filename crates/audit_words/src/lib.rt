@@ -5,16 +5,19 @@ ghost use Rattle.std.specs.Prelude.{◌≡◌, IfOk, IfSome};
 ghost use Rattle.audit_words.specs.Limits.{IsWithin};
 ghost use Rattle.audit_words.specs.Tasks.{task_of};
 
+mod bench;
 pub mod examples;
 mod files;
+mod laws;
 mod line;
 mod modes;
 mod number;
 mod word;
 
-use crate::line::command_line;
+use crate::line::matches_of;
 use crate::modes::task_in;
-use clap::error::ErrorKind;
+pub use bench::{Bench, bench_of};
+pub use laws::one_task_at_most;
 use stale_model::{Bytes, Memory};
 use std::alloc::Global;
 pub use word::Word;
@@ -55,7 +58,8 @@ pub enum Task {
     },
 }
 
-/// What the words of a command line, after the name of the program, ask for; nothing where they are wrong.
+/// What the words of a command line, after the name of the program, ask for; nothing where they are wrong, or ask for
+/// a run of the store, which `bench_of` gives.
 ///
 /// Options may stand anywhere, as `--workers 2` or `--workers=2`; the word `--` ends them. An option that comes twice,
 /// that is unknown or shortened, that the mode does not take, or whose value begins with `-` after a blank is wrong.
@@ -68,13 +72,9 @@ pub fn task_of(alloc: Global, words: &[Word]) -> Result<Option<Task>, Memory>
     ensures task { IfOk result (λ task. task ≡ task_of words.now) }
     ensures within { IfOk result (λ task. IfSome task IsWithin) }
 {
-    let Ok(command) = command_line(alloc) else {
-        return Err(Memory);
-    };
-    match command.try_get_matches_from(words) {
-        Ok(matches) => task_in(alloc, &matches),
-        Err(error) if error.kind() == ErrorKind::OutOfMemory => Err(Memory),
-        Err(_) => Ok(None),
+    match matches_of(alloc, words)? {
+        Some(matches) => task_in(alloc, &matches),
+        None => Ok(None),
     }
 }
 

@@ -2,10 +2,31 @@
 
 ghost use Rattle.std.specs.Prelude.{◌≡◌, IfOk, false, map, option_map};
 ghost use Rattle.clap.specs.Words.{all_of, first_of, app_of, found_of, rows_of, rule_of};
-ghost use Rattle.audit_words.specs.Line.{command_line, option_rule, is_among, gives_only};
+ghost use Rattle.audit_words.specs.Line.{bench_options, command_line, entries_of, option_rule, with_options, is_among, gives_only};
 
+use crate::Word;
+use clap::error::ErrorKind;
 use clap::{Arg, ArgAction, ArgMatches, Command};
+use stale_model::Memory;
 use std::alloc::{AllocError, Global};
+
+/// The options of a run of the store.
+pub(crate) fn bench_options<'a>() -> [&'a str; 10]
+    ensures { map (λ name. name.now) result ≡ bench_options }
+{
+    [
+        "workers",
+        "clients",
+        "replicas",
+        "calls",
+        "keys",
+        "read-quorum",
+        "write-quorum",
+        "writes",
+        "seed",
+        "shards",
+    ]
+}
 
 // An option with a value.
 fn option<'a>(alloc: Global, name: &'a str) -> Arg<'a>
@@ -13,6 +34,22 @@ fn option<'a>(alloc: Global, name: &'a str) -> Arg<'a>
     ensures local { result.global ≡ false }
 {
     Arg::new(alloc, name).long(name)
+}
+
+// The command with these options too, in their order.
+fn with_options<'a>(
+    alloc: Global,
+    command: Command<'a>,
+    names: &[&'a str],
+) -> Result<Command<'a>, AllocError>
+    ensures { IfOk result (λ made. app_of made
+        ≡ with_options (map (λ name. name.now) names.now) (app_of command.entry)) }
+{
+    let mut made = command;
+    for name in names {
+        made = made.arg(option(alloc, name))?;
+    }
+    Ok(made)
 }
 
 /// The command line: a mode, its arguments, and the options.
@@ -25,8 +62,25 @@ pub(crate) fn command_line<'a>(alloc: Global) -> Result<Command<'a>, AllocError>
     let command = command.arg(mode)?;
     let command = command.arg(args)?;
     let command = command.arg(option(alloc, "cert"))?;
-    let command = command.arg(option(alloc, "workers"))?;
-    Ok(command)
+    with_options(alloc, command, &bench_options())
+}
+
+/// What the command line takes the words for; nothing where it does not take them.
+pub(crate) fn matches_of<'a>(
+    alloc: Global,
+    words: &'a [Word],
+) -> Result<Option<ArgMatches<'a>>, Memory>
+    ensures { IfOk result (λ matches. option_map (λ matches. rows_of (found_of matches)) matches
+        ≡ entries_of words.now) }
+{
+    let Ok(command) = command_line(alloc) else {
+        return Err(Memory);
+    };
+    match command.try_get_matches_from(words) {
+        Ok(matches) => Ok(Some(matches)),
+        Err(error) if error.kind() == ErrorKind::OutOfMemory => Err(Memory),
+        Err(_) => Ok(None),
+    }
 }
 
 /// The value of an argument.

@@ -2,7 +2,7 @@
 
 ghost use Rattle.std.specs.Prelude.{◌≡◌, ◌≤◌, IfSome, option_map};
 ghost use Rattle.audit_words.specs.Limits.{AreWorkers};
-ghost use Rattle.audit_words.specs.Numbers.{number_of, number_within, workers_of};
+ghost use Rattle.audit_words.specs.Numbers.{number_of, number_or, number_within, workers_of};
 
 // The greatest number of digits.
 const MOST_DIGITS: usize = 20;
@@ -40,14 +40,24 @@ pub(crate) fn number_within(text: &str, least: u64, most: u64) -> Option<u64>
     }
 }
 
+/// The number of an option: `default` where there is no text, and else that of the text, from `least` to `most`.
+pub(crate) fn number_or(text: Option<&str>, default: u64, least: u64, most: u64) -> Option<u64>
+    requires from { least ≤ default }
+    requires to { default ≤ most }
+    ensures value { result ≡ number_or default least most (option_map (λ text. text.now) text.entry) }
+    ensures within { IfSome result (λ number. (least ≤ number) × (number ≤ most)) }
+{
+    match text {
+        None => Some(default),
+        Some(text) => number_within(text, least, most),
+    }
+}
+
 /// The number of workers that a text says; 1 where there is no text.
 pub(crate) fn workers_of(text: Option<&str>) -> Option<u32>
     ensures value { result ≡ workers_of (option_map (λ text. text.now) text.entry) }
     ensures within { IfSome result AreWorkers }
 {
-    let Some(text) = text else {
-        return Some(1);
-    };
-    let workers = number_within(text, 1, MOST_WORKERS)?;
+    let workers = number_or(text, 1, 1, MOST_WORKERS)?;
     Some(workers as u32)
 }

@@ -1,5 +1,6 @@
-//! That a task comes where memory is ample, which no contract says.
+//! That a task or a run comes where memory is ample, which no contract says.
 use super::*;
+use stale_model::Settings;
 use std::test::Fail;
 
 // The words between the blanks of a line.
@@ -48,5 +49,30 @@ fn gives_tasks(rt: HostRuntime) -> Result<(), Fail> {
     assert!(rt; workload == wanted && workers == 2);
     let words = words_of(rt.alloc(), "audit h --workers 0")?;
     assert!(rt; task_of(rt.alloc(), &words)?.is_none());
+    Ok(())
+}
+
+#[test]
+fn gives_runs(rt: HostRuntime) -> Result<(), Fail> {
+    let words = words_of(rt.alloc(), "bench h j --seed 9 --write-quorum=3")?;
+    let Some(bench) = bench_of(rt.alloc(), &words)? else {
+        return Err(Fail::new("no run"));
+    };
+    let wanted = Settings {
+        clients: 2,
+        replicas: 3,
+        calls: 100,
+        keys: 4,
+        read_quorum: 1,
+        write_quorum: 3,
+        writes: 50,
+        seed: 9,
+        shards: 1,
+    };
+    assert_eq!(rt; bench.history.as_slice(), b"h".as_slice());
+    assert_eq!(rt; bench.journal.as_slice(), b"j".as_slice());
+    assert!(rt; bench.settings == wanted && bench.workers == 1);
+    let words = words_of(rt.alloc(), "bench h j --write-quorum 4")?;
+    assert!(rt; bench_of(rt.alloc(), &words)?.is_none());
     Ok(())
 }

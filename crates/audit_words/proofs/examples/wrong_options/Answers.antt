@@ -9,6 +9,7 @@ returns c = record {
   workers_twice = refl;
   check_workers = refl;
   check_cert = refl;
+  audit_seed = refl;
   unknown = refl;
   shortened = refl;
   one_letter = refl;

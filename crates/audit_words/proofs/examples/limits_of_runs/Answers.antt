@@ -1,0 +1,12 @@
+use Rattle.std.proofs.Common.{refl}
+use Rattle.clap.proofs.OnLiterals.{clap_on_literals}
+use Rattle.audit_words.proofs.examples.limits_of_runs.Goals as goal
+
+pub returns : goal.returns
+unfolding clap_on_literals
+returns c = record {
+  least = refl;
+  most = refl;
+  most_calls = refl;
+  quorums = refl;
+}

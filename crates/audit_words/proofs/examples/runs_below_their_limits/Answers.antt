@@ -1,0 +1,16 @@
+use Rattle.std.proofs.Common.{refl}
+use Rattle.clap.proofs.OnLiterals.{clap_on_literals}
+use Rattle.audit_words.proofs.examples.runs_below_their_limits.Goals as goal
+
+pub returns : goal.returns
+unfolding clap_on_literals
+returns c = record {
+  clients = refl;
+  replicas = refl;
+  calls = refl;
+  keys = refl;
+  read_quorum = refl;
+  write_quorum = refl;
+  shards = refl;
+  workers = refl;
+}
