@@ -10,7 +10,7 @@ use Rattle.audit_words.specs.declared.Task.TheVariants.{Audit}
 use Rattle.audit_commands.specs.declared.refusal.Refusal.{Refusal}
 use Rattle.audit_commands.specs.declared.refusal.Refusal.TheVariants as refusal
 use Rattle.audit_commands.specs.Audit.{TakesHistory, AreVerdicts}
-use Rattle.audit_commands.specs.Output.{WritesWhole}
+use Rattle.command_outputs.specs.Output.{WritesWhole}
 use Rattle.audit_commands.specs.Ends.{KeepsShelf}
 use Rattle.audit_commands.specs.Steps.{OnlyReads}
 use Rattle.audit_commands.specs.Refusals.{WritesAudit, HistoryShows, IsRefused, TaskEnds}

@@ -18,7 +18,7 @@ use Rattle.audit_ports.specs.Sink.{SinkShown}
 use Rattle.audit_words.specs.declared.Task.TheVariants.{Check}
 use Rattle.audit_commands.specs.declared.status.Status.{Status}
 use Rattle.audit_commands.specs.Lines.{check_line}
-use Rattle.audit_commands.specs.Output.{WritesWhole}
+use Rattle.command_outputs.specs.Output.{WritesWhole}
 use Rattle.audit_commands.specs.Steps.{OnlyReads, FindsBoth, Performs, status_of_check}
 use Rattle.audit_commands.specs.Refusals.{TaskEnds}
 use Rattle.audit_commands.proofs.Keeping.{keeps_reading}

@@ -9,7 +9,7 @@ use Rattle.audit_commands.specs.declared.refusal.Refusal.TheVariants as refusal
 use Rattle.audit_commands.specs.declared.status.Status.{Status}
 use Rattle.audit_commands.specs.Refusals.{IsRefused, Answers}
 use Rattle.audit_commands.specs.Ends.{outside, Ends}
-use Rattle.audit_commands.proofs.WritingFiles.{counts_kept}
+use Rattle.command_outputs.proofs.WritingFiles.{counts_kept}
 
 module _ (words : List (List ℕ)) (task : Task) (asked : task_of words ≡ Some task) (s s' : Shown) (o o' e e' : SinkShown) where
   -- a refusal ends as its status means

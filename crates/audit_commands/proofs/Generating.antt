@@ -15,7 +15,7 @@ use Rattle.audit_words.specs.Limits.{IsWorkload}
 use Rattle.audit_commands.specs.declared.refusal.Refusal.TheVariants as refusal
 use Rattle.audit_commands.specs.declared.status.Status.TheVariants as status
 use Rattle.audit_commands.specs.Generated.{IsTrial, generated_text}
-use Rattle.audit_commands.specs.Output.{WritesWhole, WritesPart}
+use Rattle.command_outputs.specs.Output.{WritesWhole, WritesPart}
 use Rattle.audit_commands.specs.Refusals.{TaskEnds}
 use Rattle.audit_commands.proofs.Keeping.{keeps_same}
 

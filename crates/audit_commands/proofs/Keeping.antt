@@ -3,7 +3,8 @@ use Rattle.std.proofs.Common.{◌≡◌, ℕ, ◌≤◌, List, Option, Some, Non
 use Rattle.audit_ports.specs.Shelf.{Shown, Files, WhereTold, Sets}
 use Rattle.audit_ports.specs.Sink.{SinkShown}
 use Rattle.audit_words.specs.Tasks.{task_of}
-use Rattle.audit_commands.specs.Output.{WritesFile, WritesFilePart, WritesNamed, WritesNamedPart}
+use Rattle.command_outputs.specs.Output.{WritesFile, WritesFilePart}
+use Rattle.audit_commands.specs.Output.{WritesNamed, WritesNamedPart}
 use Rattle.audit_commands.specs.Ends.{KeepsOthers, KeepsShelf, KeepsOutside, named_output, outside}
 use Rattle.audit_commands.specs.Steps.{OnlyReads}
 

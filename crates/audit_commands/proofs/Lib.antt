@@ -1,6 +1,4 @@
 pub mod Taking
-pub mod Saying
-pub mod WritingFiles
 pub mod Keeping
 pub mod Refusing
 pub mod Auditing

@@ -9,7 +9,7 @@ use Rattle.audit_words.specs.declared.Task.TheVariants.{Check}
 use Rattle.audit_commands.specs.declared.refusal.Refusal.{Refusal}
 use Rattle.audit_commands.specs.declared.refusal.Refusal.TheVariants as refusal
 use Rattle.audit_commands.specs.Audit.{Input, IsInput, history_limit, cert_limit, TakesHistory, TakesBoth, history_file}
-use Rattle.audit_commands.proofs.WritingFiles.{counts_kept}
+use Rattle.command_outputs.proofs.WritingFiles.{counts_kept}
 use Rattle.audit_commands.specs.Refusals.{HistoryShows, CertShows, Shows, IsRefused}
 
 module _ (task : Task) (file : List ℕ) (file_is : history_file task ≡ Some file) (s m : Shown) where

@@ -4,7 +4,7 @@ use Rattle.std.specs.Prelude.{IfSome}
 use Rattle.std.proofs.lemmas.List.{length-take}
 use Rattle.audit_ports.specs.Shelf.{Shown, KeepsFiles, KeepsCounts, TakesBytes, file_at, Files}
 use Rattle.audit_commands.specs.Steps.{IsTaken}
-use Rattle.audit_commands.proofs.WritingFiles.{counts_kept}
+use Rattle.command_outputs.proofs.WritingFiles.{counts_kept}
 
 content_more : (bytes piece content : List ℕ) (n : ℕ) → length piece ≡ n → bytes ≡ take (length bytes) content → piece ≡ take n (drop (length bytes) content)
     → bytes ++ piece ≡ take (length (bytes ++ piece)) content

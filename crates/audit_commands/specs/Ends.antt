@@ -20,10 +20,12 @@ use Rattle.audit_commands.specs.declared.status.Status.{Status}
 use Rattle.audit_commands.specs.declared.status.Status.TheVariants as status
 use Rattle.audit_commands.specs.Status.{number}
 use Rattle.audit_commands.specs.Input.{IsTooLong}
-use Rattle.audit_commands.specs.Output.{WritesWhole, WritesPart, WritesNamed, WritesNamedPart}
+use Rattle.command_outputs.specs.Output.{WritesWhole, WritesPart}
+use Rattle.audit_commands.specs.Output.{WritesNamed, WritesNamedPart}
 use Rattle.audit_commands.specs.Audit.{TakesHistory, IsFaultOf, IsCertFaultOf, TakesBoth, AreVerdicts, Input, IsInput, history_file, output_file}
 use Rattle.audit_commands.specs.Generated.{GenDone, TrialDone, GenUnwritten, TrialUnwritten}
-use Rattle.audit_commands.specs.Lines.{SaysLine, check_line, words_line, fault_line, cert_fault_line, missing_line, too_long_line, read_failed_line, write_failed_line, memory_line}
+use Rattle.command_outputs.specs.Lines.{SaysLine, write_failed_line, memory_line}
+use Rattle.audit_commands.specs.Lines.{check_line, words_line, fault_line, cert_fault_line, missing_line, too_long_line, read_failed_line}
 
 -- what is known of the outside: of the shelf, of the output and of the error output
 pub record Outside : Type 0 where

@@ -10,7 +10,7 @@ use Rattle.audit_ports.specs.Shelf.{Shown}
 use Rattle.audit_ports.specs.Sink.{SinkShown}
 use Rattle.audit_words.specs.declared.Workload.{Workload}
 use Rattle.audit_commands.specs.Audit.{AreVerdicts}
-use Rattle.audit_commands.specs.Output.{WritesWhole, WritesPart}
+use Rattle.command_outputs.specs.Output.{WritesWhole, WritesPart}
 
 -- the text of the generated history
 abbrev pub generated_text : Workload → List ℕ

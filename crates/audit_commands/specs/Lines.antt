@@ -1,5 +1,5 @@
 -- The lines of a check, and the line that is written to the error output after a refusal.
-use Rattle.std.specs.Prelude.{◌≡◌, ◌⊎◌, ℕ, ◌≤◌, List, ◌++◌, Option, Some, None, codes}
+use Rattle.std.specs.Prelude.{ℕ, List, ◌++◌, Option, Some, None, codes}
 use Rattle.std.specs.Fmt.{decimal}
 use Rattle.history_csv.specs.declared.HistoryFault.{HistoryFault}
 use Rattle.history_csv.specs.declared.HistoryFault.TheVariants as fault
@@ -8,8 +8,6 @@ use Rattle.cert_text.specs.declared.CertFault.{CertFault}
 use Rattle.cert_text.specs.declared.CertFault.TheVariants as cert_fault
 use Rattle.cert_checker.specs.declared.Checked.{Checked}
 use Rattle.cert_checker.specs.declared.Checked.TheVariants as checked
-use Rattle.audit_ports.specs.Shelf.{Rose}
-use Rattle.audit_ports.specs.Sink.{SinkShown, GainsPrefix, appended}
 use Rattle.staleness_report.specs.Escaped.{escaped}
 
 -- the line of a check: `good`, or the first key that isn't, its first broken rule, and the record that is named
@@ -64,17 +62,3 @@ too_long_line name = codes "too long: " ++ escaped name ++ codes "\n"
 -- the line on a failed read
 abbrev pub read_failed_line : List ℕ
 read_failed_line = codes "read failed\n"
-
--- the line on a failed write
-abbrev pub write_failed_line : List ℕ
-write_failed_line = codes "write failed\n"
-
--- the line on a want of memory
-abbrev pub memory_line : List ℕ
-memory_line = codes "out of memory\n"
-
--- the error output gained a prefix of this line, and the whole line unless its count of faults rose
-pub record SaysLine (line : List ℕ) (old new : SinkShown) : Type 0 where
-  pub keeps : old.faults ≤ new.faults
-  pub prefix : GainsPrefix line old new
-  pub whole : (Rose old.faults new.faults) ⊎ (new.written ≡ appended old.written line)

@@ -18,11 +18,13 @@ use Rattle.audit_commands.specs.declared.status.Status.TheVariants as status
 use Rattle.audit_commands.specs.declared.refusal.Refusal.{Refusal}
 use Rattle.audit_commands.specs.declared.refusal.Refusal.TheVariants as refusal
 use Rattle.audit_commands.specs.Input.{IsTooLong}
-use Rattle.audit_commands.specs.Output.{WritesWhole, WritesPart, WritesNamed, WritesNamedPart}
+use Rattle.command_outputs.specs.Output.{WritesWhole, WritesPart}
+use Rattle.audit_commands.specs.Output.{WritesNamed, WritesNamedPart}
 use Rattle.audit_commands.specs.Audit.{history_limit, cert_limit, TakesHistory, IsFaultOf, IsCertFaultOf, Input, IsInput, history_file, output_file}
 use Rattle.audit_commands.specs.Ends.{KeepsShelf, IsUnwritten}
 use Rattle.audit_commands.specs.Steps.{Performs}
-use Rattle.audit_commands.specs.Lines.{fault_line, cert_fault_line, missing_line, too_long_line, read_failed_line, write_failed_line, memory_line, SaysLine}
+use Rattle.command_outputs.specs.Lines.{write_failed_line, memory_line, SaysLine}
+use Rattle.audit_commands.specs.Lines.{fault_line, cert_fault_line, missing_line, too_long_line, read_failed_line}
 
 -- the refusal that a fault of reading a history is
 abbrev pub refusal_of : HistoryFault → Refusal

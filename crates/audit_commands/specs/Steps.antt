@@ -1,5 +1,5 @@
 -- Definitions that serve the code alone: the steps of a command.
-use Rattle.std.specs.Prelude.{◌≡◌, ℕ, List, length, take, Some, IfSome, IsSome, Result, OnOk, OnErr}
+use Rattle.std.specs.Prelude.{◌≡◌, ℕ, List, length, take, Some, IfSome, IsSome}
 use Rattle.stale_model.specs.declared.History.{History}
 use Rattle.stale_model.specs.declared.Verdict.{Verdict}
 use Rattle.audit_ports.specs.Shelf.{Shown, KeepsFiles, KeepsCounts, file_at}
@@ -16,7 +16,6 @@ use Rattle.audit_commands.specs.declared.input.TakeFault.{TakeFault}
 use Rattle.audit_commands.specs.declared.input.TakeFault.TheVariants as taking
 use Rattle.audit_commands.specs.declared.status.Status.{Status}
 use Rattle.audit_commands.specs.declared.status.Status.TheVariants as status
-use Rattle.audit_commands.specs.Output.{WritesWhole, WritesPart, WritesFile, WritesFilePart}
 use Rattle.audit_commands.specs.Audit.{TakesBoth}
 use Rattle.audit_commands.specs.Ends.{IsDone, CheckFails}
 
@@ -38,16 +37,6 @@ pub record IsTaken (name : List ℕ) (bytes : List ℕ) (old new : Shown) : Type
   pub reading : new.reading ≡ Some (record { name = name; place = length bytes })
   pub told : IfSome old.files (λ files. IfSome (file_at files name) (λ content. bytes ≡ take (length bytes) content))
   pub there : IfSome old.files (λ files. IsSome (file_at files name))
-
--- an output gained this text and handed it on, or one of its calls failed
-pub record Prints {T E : Type 0} (text : List ℕ) (old : SinkShown) (result : Result T E) (new : SinkShown) : Type 0 where
-  pub ok : OnOk result (WritesWhole text old new)
-  pub refused : OnErr result (WritesPart text old new)
-
--- a file was written whole, or one of the calls failed
-pub record WritesOut {T E : Type 0} (name text : List ℕ) (old : Shown) (result : Result T E) (new : Shown) : Type 0 where
-  pub ok : OnOk result (WritesFile name text old new)
-  pub refused : OnErr result (WritesFilePart name text old new)
 
 -- both inputs of a check were taken, and this is found of the verdicts
 pub record FindsBoth (file cert : List ℕ) (old new : Shown) (found : Checked) : Type 0 where

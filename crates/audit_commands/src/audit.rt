@@ -9,12 +9,12 @@ ghost use Rattle.audit_words.specs.declared.Task.{Task};
 ghost use Rattle.audit_commands.specs.Refusals.{Certifies, WritesAudit, TaskEnds};
 
 use crate::history::history_in;
-use crate::output::{print, write_file};
 use crate::refusal::Refusal;
 use crate::status::Status;
 use audit_ports::{Gate, Shelf, Sink};
 use audit_workers::judge_all;
 use cert_text::write_cert;
+use command_outputs::{print, write_file};
 use stale_model::{Bytes, History, Verdict};
 use staleness_report::report;
 use std::alloc::Global;

@@ -9,11 +9,11 @@ ghost use Rattle.audit_commands.specs.Refusals.{Shows, TaskEnds};
 
 use crate::certificate::verdicts_in;
 use crate::history::history_in;
-use crate::output::print;
 use crate::refusal::Refusal;
 use crate::status::Status;
 use audit_ports::{Shelf, Sink};
 use cert_checker::{Checked, check_all};
+use command_outputs::print;
 use stale_model::Bytes;
 use std::alloc::{AllocError, Global};
 use std::mem::forget;

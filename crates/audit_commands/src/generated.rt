@@ -9,12 +9,12 @@ ghost use Rattle.audit_words.specs.declared.Task.{Task};
 ghost use Rattle.audit_commands.specs.Generated.{generated_text};
 ghost use Rattle.audit_commands.specs.Refusals.{TaskEnds};
 
-use crate::output::print;
 use crate::refusal::Refusal;
 use crate::status::Status;
 use audit_ports::{Gate, Sink};
 use audit_words::Workload;
 use audit_workers::judge_all;
+use command_outputs::print;
 use history_csv::{HistoryFault, read_history, write_history};
 use history_gen::gen_history;
 use stale_model::{Bytes, History, Memory};

@@ -5,7 +5,7 @@ ghost use Rattle.std.specs.Prelude.{◌≡◌, ◌⊎◌, None};
 ghost use Rattle.audit_words.specs.Limits.{IsWithin};
 ghost use Rattle.audit_words.specs.Tasks.{task_of};
 ghost use Rattle.audit_commands.specs.Status.{number};
-ghost use Rattle.audit_commands.specs.Lines.{memory_line, SaysLine};
+ghost use Rattle.command_outputs.specs.Lines.{memory_line, SaysLine};
 ghost use Rattle.audit_commands.specs.Ends.{outside, KeepsOutside, EndsAs};
 ghost use Rattle.audit_commands.specs.Complete.{IsComplete};
 ghost use Rattle.audit_commands.specs.Refusals.{TaskEnds};
@@ -17,7 +17,6 @@ mod generated;
 mod history;
 mod input;
 mod laws;
-mod output;
 mod refusal;
 mod status;
 

@@ -6,7 +6,8 @@ ghost use Rattle.history_csv.specs.Header.{IsColumn};
 ghost use Rattle.std.specs.Prelude.{◌≢◌};
 ghost use Rattle.history_csv.specs.declared.HistoryFault.{HistoryFault};
 ghost use Rattle.cert_text.specs.declared.CertFault.{CertFault};
-ghost use Rattle.audit_commands.specs.Lines.{record_line, fault_line, cert_line, cert_fault_line, memory_line};
+ghost use Rattle.command_outputs.specs.Lines.{memory_line};
+ghost use Rattle.audit_commands.specs.Lines.{record_line, fault_line, cert_line, cert_fault_line};
 ghost use Rattle.audit_commands.specs.Refusals.{HasLine, CanBeSaid, Says, Answers};
 ghost use Rattle.audit_commands.specs.Status.{number};
 ghost use Rattle.staleness_report.specs.Escaped.{escaped};
@@ -14,6 +15,7 @@ ghost use Rattle.staleness_report.specs.Escaped.{escaped};
 use crate::status::Status;
 use audit_ports::{Failed, Sink};
 use cert_text::CertFault;
+use command_outputs::say;
 use history_csv::{HistoryFault, column_name};
 use stale_model::{Bytes, Memory};
 use staleness_report::escape;
@@ -204,7 +206,7 @@ pub(crate) fn name_line(alloc: Global, label: &str, name: &[u8]) -> Result<Bytes
 pub(crate) fn end<E: Sink>(err: &mut E, line: &[u8], status: Status) -> Status
     ensures { Says status line.now result (E.shown err.old) (E.shown err.new) }
 {
-    let _ = err.write(line);
+    say(err, line);
     status
 }
 

@@ -2,8 +2,8 @@
 use Rattle.std.proofs.Common.{◌≡◌, ℕ, List, Ok, Err, Result, length, sym, ◌∙◌, ap, inl, inr}
 use Rattle.std.proofs.Math.Seq.{take-length}
 use Rattle.audit_ports.specs.Sink.{SinkShown, Writes, Flushes, GainsPrefix, appended}
-use Rattle.audit_commands.specs.Steps.{Prints}
-use Rattle.audit_commands.specs.Lines.{SaysLine}
+use Rattle.command_outputs.specs.Steps.{Prints}
+use Rattle.command_outputs.specs.Lines.{SaysLine}
 
 -- the whole is a prefix
 pub gains_whole : (piece : List ℕ) (old new : SinkShown) → new.written ≡ appended old.written piece → GainsPrefix piece old new

@@ -3,7 +3,7 @@ use Rattle.std.proofs.Common.{◌≡◌, ℕ, List, [], ◌++◌, Option, Some, 
 use Rattle.std.proofs.Math.Seq.{take-length}
 use Rattle.std.specs.Prelude.{IfSome}
 use Rattle.audit_ports.specs.Shelf.{Shown, Files, Rose, KeepsCounts, FailsWriting, WhereTold, Sets, Extends, IsCreated, Finishes}
-use Rattle.audit_commands.specs.Steps.{WritesOut}
+use Rattle.command_outputs.specs.Steps.{WritesOut}
 
 -- counts that were kept twice were kept
 pub counts_kept : (a b c : Shown) → KeepsCounts a b → KeepsCounts b c → KeepsCounts a c

@@ -1,5 +1,5 @@
-use Rattle.audit_commands.proofs.WritingFiles.{finished_whole}
-use Rattle.audit_commands.proofs.output.write_file.Goals as goal
+use Rattle.command_outputs.proofs.WritingFiles.{finished_whole}
+use Rattle.command_outputs.proofs.write_file.Goals as goal
 
 pub returns : goal.returns
 returns g c =

@@ -1,5 +1,5 @@
-use Rattle.audit_commands.proofs.Saying.{prints_from_flush}
-use Rattle.audit_commands.proofs.output.print.Goals as goal
+use Rattle.command_outputs.proofs.Saying.{prints_from_flush}
+use Rattle.command_outputs.proofs.print.Goals as goal
 
 pub returns : goal.returns
 returns g c =
