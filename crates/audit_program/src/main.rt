@@ -1,15 +1,19 @@
-//! The auditor: hands the words of its command line, the files of the machine and its standard streams to the
-//! commands, and ends with the status that they give.
+//! The auditor: hands the words of its command line, the files of the machine, its standard streams and a crew of
+//! threads to the commands, and ends with the status that they give.
 #![tactic(auto)]
 
-use audit_commands::{refuse_for_memory, run_offline};
-use audit_ports::{OpenGate, RealShelf, RealSink};
+use audit_commands::refuse_for_memory;
+use audit_ports::{OpenGate, RealShelf, RealSink, ThreadCrew};
 use audit_words::Word;
-use stale_model::Memory;
+use bench_commands::run;
+use stale_model::{List, Memory};
 use std::env;
 use std::io::ErrorKind;
 use std::process::ExitCode;
 use std::rt::Env;
+
+// How many jobs the crew has places for.
+const PLACES: u32 = 32;
 
 // The words after the program's name. Where one of them is no UTF-8 text there are none, which is refused as any
 // wrong words are.
@@ -36,13 +40,18 @@ fn main(rt: HostRuntime) -> ExitCode {
     let Ok(words) = words_of(&rt) else {
         return ExitCode::from(refuse_for_memory(&mut err));
     };
-    ExitCode::from(run_offline(
+    let no_fails = List::from_vec(Vec::new(rt.alloc()));
+    let Ok(mut crew) = ThreadCrew::prepare(rt, rt.alloc(), PLACES, no_fails) else {
+        return ExitCode::from(refuse_for_memory(&mut err));
+    };
+    ExitCode::from(run(
         &rt,
         rt.alloc(),
         &words,
         &mut shelf,
         &mut out,
         &mut err,
+        &mut crew,
         &OpenGate,
     ))
 }
