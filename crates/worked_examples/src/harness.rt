@@ -102,12 +102,13 @@ impl<'a> Row<'a> {
     }
 }
 
-// The numbers of the calls that fail.
-fn failing(alloc: Global, calls: &[u32]) -> Result<List<u32>, AllocError> {
+/// The numbers of the calls that fail.
+pub fn failing(alloc: Global, calls: &[u32]) -> Result<List<u32>, AllocError> {
     Ok(List::from_vec(Vec::from_slice(alloc, calls)?))
 }
 
-fn words_of(alloc: Global, texts: &[&str]) -> Result<Vec<Word>, AllocError> {
+/// The words of these texts.
+pub fn words_of(alloc: Global, texts: &[&str]) -> Result<Vec<Word>, AllocError> {
     let mut words = Vec::new(alloc);
     for text in texts {
         let Ok(word) = Word::of(alloc, text) else {
@@ -118,8 +119,8 @@ fn words_of(alloc: Global, texts: &[&str]) -> Result<Vec<Word>, AllocError> {
     Ok(words)
 }
 
-// A file: its name and its bytes.
-fn file_of(alloc: Global, name: &[u8], bytes: &[u8]) -> Result<(Bytes, Bytes), AllocError>
+/// A file: its name and its bytes.
+pub fn file_of(alloc: Global, name: &[u8], bytes: &[u8]) -> Result<(Bytes, Bytes), AllocError>
     ensures { IfOk result (λ file. file.0 ≡ name.now) }
 {
     let (Ok(name), Ok(bytes)) = (Bytes::of(alloc, name), Bytes::of(alloc, bytes)) else {
@@ -140,18 +141,30 @@ fn files_of(alloc: Global, row: &Row) -> Result<List<(Bytes, Bytes)>, AllocError
     Ok(List::from_vec(files))
 }
 
-// A shelf with the files of a row.
-fn shelf_of(alloc: Global, row: &Row) -> Result<MemoryShelf, AllocError>
+/// A shelf with these files, of which these calls fail.
+pub fn shelf_with(
+    alloc: Global,
+    files: List<(Bytes, Bytes)>,
+    fail: &[u32],
+) -> Result<MemoryShelf, AllocError>
+    requires { HaveDistinctNames files }
     ensures { IfOk result (λ shelf. (memory_shown shelf).writing ≡ None) }
 {
-    let files = files_of(alloc, row)?;
-    match MemoryShelf::prepare(alloc, files, failing(alloc, row.shelf_fails)?) {
+    match MemoryShelf::prepare(alloc, files, failing(alloc, fail)?) {
         Ok(shelf) => Ok(shelf),
         Err(_) => Err(AllocError),
     }
 }
 
-fn sink_of(alloc: Global, fail: &[u32]) -> Result<MemorySink, AllocError> {
+/// A shelf with the files of a row.
+pub fn shelf_of(alloc: Global, row: &Row) -> Result<MemoryShelf, AllocError>
+    ensures { IfOk result (λ shelf. (memory_shown shelf).writing ≡ None) }
+{
+    shelf_with(alloc, files_of(alloc, row)?, row.shelf_fails)
+}
+
+/// An output of which these calls fail.
+pub fn sink_of(alloc: Global, fail: &[u32]) -> Result<MemorySink, AllocError> {
     match MemorySink::prepare(alloc, failing(alloc, fail)?) {
         Ok(sink) => Ok(sink),
         Err(_) => Err(AllocError),
@@ -194,6 +207,30 @@ impl Shelf for ShortShelf {
     }
 }
 
+/// What a call of the program answers.
+#[derive(Drop)]
+pub struct Answer {
+    pub status: u8,
+    pub out: MemorySink,
+    pub err: MemorySink,
+}
+
+/// Demands that an answer has this status, output and error output.
+pub fn demand_answer<R: Abort>(
+    rt: &R,
+    shows: &str,
+    answer: &Answer,
+    (status, out, err): (u8, &str, &str),
+) {
+    let found = answer.status;
+    assert!(rt; found == status, "{shows}: status {found}");
+    assert!(rt; answer.out.written() == out.as_bytes(), "{shows}: output");
+    assert!(rt;
+        answer.err.written() == err.as_bytes(),
+        "{shows}: error output"
+    );
+}
+
 // Runs a row over a shelf, and demands its answer.
 fn run_over<R: Threads + Sync + Abort + AllocGlobal, S: Shelf, G: Gate>(
     rt: &R,
@@ -208,18 +245,13 @@ fn run_over<R: Threads + Sync + Abort + AllocGlobal, S: Shelf, G: Gate>(
     let mut out = sink_of(alloc, row.out_fails)?;
     let mut err = sink_of(alloc, row.err_fails)?;
     let status = run_offline(rt, alloc, &words, shelf, &mut out, &mut err, gate);
-    let shows = row.shows;
-    assert!(rt; status == row.status, "{shows}: status {status}");
-    assert!(rt; out.written() == row.out.as_bytes(), "{shows}: output");
-    assert!(rt;
-        err.written() == row.err.as_bytes(),
-        "{shows}: error output"
-    );
+    let answer = Answer { status, out, err };
+    demand_answer(rt, row.shows, &answer, (row.status, row.out, row.err));
     Ok(())
 }
 
-// Demands that a shelf's files are those of a row afterwards.
-fn demand_files<R: Abort>(rt: &R, row: &Row, shelf: &MemoryShelf) {
+/// Demands that a shelf's files are those of a row afterwards.
+pub fn demand_files<R: Abort>(rt: &R, row: &Row, shelf: &MemoryShelf) {
     let shows = row.shows;
     let (name, bytes) = row.after;
     assert!(rt; shelf.file(b"h") == Some(row.history), "{shows}: h");

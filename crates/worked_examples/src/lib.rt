@@ -3,9 +3,13 @@
 #![tactic(auto)]
 
 #[cfg(test)]
+mod bench_rows;
+#[cfg(test)]
 mod certificates;
 #[cfg(test)]
 mod checking;
+#[cfg(test)]
+mod gates;
 #[cfg(test)]
 mod generated;
 #[cfg(test)]
@@ -18,3 +22,7 @@ mod large;
 mod outside;
 #[cfg(test)]
 mod reading;
+#[cfg(test)]
+mod runs;
+#[cfg(test)]
+mod stress;

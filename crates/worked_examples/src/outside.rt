@@ -1,9 +1,8 @@
 //! Words that are refused, files that are not there or too long, calls of the outside that fail or give less than was
 //! asked for, and the gate.
 
+use crate::gates::CountingGate;
 use crate::harness::{Row, audit_past, run_row, run_shortly, run_table};
-use audit_ports::Gate;
-use std::sync::atomic::{AtomicU32, Ordering};
 use std::test::Fail;
 
 const HISTORY: &[u8] = b"client,op,key,value,start,finish\n0,w,x,a,1,3\n1,r,x,a,4,6\n";
@@ -59,7 +58,7 @@ fn other_words_are_refused(rt: HostRuntime) -> Result<(), Fail> {
                 "and with too many",
                 &["trial", "1", "1", "1", "--workers", "65"],
             ),
-            with_words("and a mode with two files", &["bench", "h", "h"]),
+            with_words("a run of the store", &["bench", "h", "j"]),
             with_words("no worker", &["audit", "h", "--workers", "0"]),
             with_words("too many workers", &["audit", "h", "--workers", "65"]),
             with_words("a sign in a number", &["audit", "h", "--workers=+2"]),
@@ -366,44 +365,15 @@ fn short_reads_are_put_together(rt: HostRuntime) -> Result<(), Fail> {
     Ok(())
 }
 
-// A gate that counts its calls, and those that come out of turn: each key is entered, in the order of the keys, after
-// the one before was left.
-#[derive(Drop)]
-struct CountingGate {
-    entered: AtomicU32,
-    left: AtomicU32,
-    astray: AtomicU32,
-}
-
-impl Gate for CountingGate {
-    fn enter(&self, piece: u32) {
-        let entered = self.entered.fetch_add(1, Ordering::SeqCst);
-        if entered != piece || self.left.load(Ordering::SeqCst) != piece {
-            self.astray.fetch_add(1, Ordering::SeqCst);
-        }
-    }
-
-    fn leave(&self, piece: u32) {
-        let left = self.left.fetch_add(1, Ordering::SeqCst);
-        if left != piece || self.entered.load(Ordering::SeqCst) != piece.wrapping_add(1) {
-            self.astray.fetch_add(1, Ordering::SeqCst);
-        }
-    }
-}
-
 // Wherever an allocation is refused, what was entered is left.
 #[test]
 fn the_gate_is_passed_round_each_key(rt: HostRuntime) -> Result<(), Fail> {
-    let gate = CountingGate {
-        entered: AtomicU32::new(0),
-        left: AtomicU32::new(0),
-        astray: AtomicU32::new(0),
-    };
+    let gate = CountingGate::new();
     let history = b"client,op,key,value,start,finish\n0,w,x,a,1,3\n0,w,y,a,4,6\n0,r,z,a,7,9\n";
     let status = audit_past(&rt, history, &gate)?;
-    let entered = gate.entered.load(Ordering::SeqCst);
-    assert_eq!(rt; gate.astray.load(Ordering::SeqCst), 0);
-    assert_eq!(rt; gate.left.load(Ordering::SeqCst), entered);
+    let entered = gate.entered();
+    assert_eq!(rt; gate.astray(), 0);
+    assert_eq!(rt; gate.left(), entered);
     assert!(rt; status == 10 || (status == 0 && entered == 3));
     Ok(())
 }
