@@ -1,5 +1,5 @@
 //! Files and outputs in memory. Exactly the calls that they are told to fail do fail.
-ghost use Rattle.std.specs.Prelude.{◌≡◌, ◌⊎◌, ℕ, ◌+◌, ◌-◌, ◌<◌, ◌≤◌, ◌↔◌, true, List, [], ◌∷◌, ◌++◌, length, vec_len, take, drop, min, Some, None, IsSome, position, IfSome, IfNone, IfOk, IsErr, OnOk, OnErr, IsErrOf, IsTrue};
+ghost use Rattle.std.specs.Prelude.{◌≡◌, ◌⊎◌, ℕ, ◌+◌, ◌-◌, ◌<◌, ◌≤◌, ◌↔◌, true, List, [], ◌∷◌, ◌++◌, length, vec_len, take, drop, min, Some, None, IsSome, position, IfSome, IfNone, IfOk, IsErr, OnOk, OnErr, IsErrOf};
 ghost use Rattle.std.specs.Option.{ForSome};
 ghost use Rattle.audit_ports.specs.Shelf.{Opens, Reads, Creates, WritesPiece, Finishes, file_at, fresh};
 ghost use Rattle.audit_ports.specs.Sink.{Writes, Flushes, fresh_sink};
