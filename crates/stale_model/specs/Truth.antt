@@ -37,7 +37,7 @@ IsTrueOf ops (Infinite rec) = IsNeverAtomic ops rec
 IsTrueOf ops (Judged judgement) = IsAtomicFrom ops judgement
 
 -- a verdict for each key, in the order of the keys, as this says of each
-pub record EachKeyHas (Says : List Op → Verdict → Type 0) (keys : List KeyOps) (verdicts : List Verdict) : Type 0 where
+pub record EachKeyHas {V : Type 0} (Says : List Op → V → Type 0) (keys : List KeyOps) (verdicts : List V) : Type 0 where
   pub as_many : length verdicts ≡ length keys
-  pub each : (i : ℕ) (key : KeyOps) (verdict : Verdict) → slice_get keys i ≡ Some key → slice_get verdicts i ≡ Some verdict
+  pub each : (i : ℕ) (key : KeyOps) (verdict : V) → slice_get keys i ≡ Some key → slice_get verdicts i ≡ Some verdict
       → Says (operations key) verdict
