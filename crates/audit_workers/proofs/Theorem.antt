@@ -36,7 +36,7 @@ use Rattle.lbt_epochs.proofs.AnswersThere.{answers_exist}
 use Rattle.lbt_epochs.proofs.ListedEpochs.{listings_are_answered}
 use Rattle.lbt_epochs.proofs.RefutedAnswers.{refutations_are_answered}
 use Rattle.audit_workers.specs.Laws.{TwoTheorem, YesIsExact, VerdictExists}
-use Rattle.audit_workers.proofs.Clear.{starts_by_finish}
+use Rattle.delta_score.proofs.Starts.{starts_by_finish}
 
 module _ (key : KeyOps) (d : ℕ) (clusters : List Cluster) (valid : IsValidKey key) (matched : IsMatchedKey (operations key)) (are : AreClusters (operations key) clusters) where
   -- an answer is that of a listing where there is an order with k = 2

@@ -4,6 +4,7 @@ pub mod Segments
 pub mod SortedPlaces
 pub mod Returned
 pub mod Ordered
+pub mod Starts
 pub mod Late
 pub mod ListingOrders
 pub mod Pairs

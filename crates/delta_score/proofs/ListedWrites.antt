@@ -1,16 +1,17 @@
 -- The write records of a key, and of its clusters.
-use Rattle.std.proofs.Common.{◌≡◌, ℕ, List, map, sym, ◌∙◌, ap}
+use Rattle.std.proofs.Common.{◌≡◌, ℕ, List, map, length, sym, ◌∙◌, ap, arith}
 use Rattle.std.specs.Prelude.{Contains}
 use Rattle.std.specs.List.{filter}
-use Rattle.std.proofs.lemmas.Option.{get_or_from_slice_get}
+use Rattle.std.proofs.lemmas.Option.{slice_get_within, get_or_from_slice_get}
 use Rattle.std.proofs.lemmas.List.{length-map}
-use Rattle.std.proofs.lemmas.List.Sorted.{Contains-permutation, IsPermutation-sym}
+use Rattle.std.proofs.lemmas.List.Sorted.{Contains-permutation, IsPermutation-refl, IsPermutation-sym}
 use Rattle.stale_model.specs.declared.Op.{Op}
 use Rattle.stale_model.specs.declared.Cluster.{Cluster}
 use Rattle.stale_model.specs.Operations.{IsWrite, is_write, is_write_kind}
-use Rattle.stale_model.specs.Orders.{StandsAt}
-use Rattle.stale_model.proofs.Places.{contains_at, at_its_place, something_at, stands_mapped}
-use Rattle.stale_model.proofs.Sorted.{permuted_no_repeats}
+use Rattle.stale_model.specs.Orders.{StandsAt, ListsEachOnce}
+use Rattle.stale_model.specs.Clusters.{AreClusters, writes_of}
+use Rattle.stale_model.proofs.Places.{contains_at, at_its_place, something_at, same_at, stands_mapped, write_there}
+use Rattle.stale_model.proofs.Sorted.{permuted_no_repeats, one_by_number}
 use Rattle.stale_model.proofs.ClustersOne.{cluster_writes_differ}
 use Rattle.stale_model.proofs.ReadsAndWrites.{kind_is_write}
 use Rattle.model_laws.proofs.Listings.{origin, origin_stands, passes_at, keeps}
@@ -35,6 +36,14 @@ module _ {X : Type 0} (f : X → ℕ) (xs : List X) where
   has_origin y (i, within, is) =
       let (x, at) = something_at xs i (simp length-map at within) in
       record { place = i; x = x; at = at; image = sym (get_or_from_slice_get (map f xs) i (f x) y (stands_mapped f xs i x at)) ∙ is }
+
+  -- where an image stands, what it is of stands
+  stands_of_image : (i y : ℕ) → StandsAt (map f xs) i y → (x : X) × StandsAt xs i x × (f x ≡ y)
+  stands_of_image i y at =
+      let within = slice_get_within (map f xs) i y at in
+      let long : length (map f xs) ≡ length xs = length-map xs f in
+      let (x, stands) = something_at xs i (omega arith) in
+      (x, stands, same_at (map f xs) i (f x) y (stands_mapped f xs i x stands) at)
 
 -- the record of a write is among the write records
 pub write_is_listed : (ops : List Op) (w : Op) → Contains ops w → IsWrite w → Contains (write_records ops) w.rec
@@ -63,3 +72,24 @@ clusters_list_writes ops clusters zones are each = record {
       rw (sym w.record_is ∙ is.record_is) (has_image (λ (c : Cluster). c.write) zones zone (Contains-permutation clusters zones zone each member));
   once = permuted_no_repeats (λ (c : Cluster). c.write) clusters zones each (cluster_writes_differ ops clusters are);
 }
+
+-- a listing of the clusters lists each write once
+pub listing_lists_writes : (ops : List Op) (clusters listing : List Cluster) → AreClusters ops clusters → ListsEachOnce clusters listing
+    → ListsEachOnce (write_records ops) (writes_of listing)
+listing_lists_writes ops clusters listing are each =
+    let writes = clusters_list_writes ops clusters clusters are (IsPermutation-refl clusters) in
+    let differ = cluster_writes_differ ops clusters are in
+    let write : Cluster → ℕ = λ c. c.write in
+    record {
+      known = λ x there.
+          let o = has_origin write listing x there in
+          writes.known x (rw o.image at (write_there clusters o.x (each.known o.x (contains_at listing o.place o.x o.at))));
+      whole = λ x there.
+          let o = has_origin write clusters x (writes.whole x there) in
+          rw o.image at (write_there listing o.x (each.whole o.x (contains_at clusters o.place o.x o.at)));
+      once = λ i j x at_i at_j.
+          let (c, stands_i, same) = stands_of_image write listing i x at_i in
+          let (e, stands_j, other) = stands_of_image write listing j x at_j in
+          let one : c ≡ e = one_by_number write clusters c e differ (each.known c (contains_at listing i c stands_i)) (each.known e (contains_at listing j e stands_j)) (same ∙ sym other) in
+          each.once i j c stands_i (rw one stands_j);
+    }

@@ -27,7 +27,8 @@ use Rattle.delta_score.specs.ListingLaws.{ListingsAreOrders}
 use Rattle.model_laws.proofs.Between.{read_start}
 use Rattle.model_laws.proofs.ClustersOne.{valid_records_differ}
 use Rattle.delta_score.proofs.Once.{each_once_in_order}
-use Rattle.delta_score.proofs.Ordered.{FinishFromStart, starts_before_finish, zone_orders_are_orders}
+use Rattle.delta_score.specs.ZoneLaws.{FinishFromStart}
+use Rattle.delta_score.proofs.Ordered.{starts_before_finish, zone_orders_are_orders}
 use Rattle.delta_score.proofs.Segments.{AreSameClusters, same_in_order, zone_of, one_value, finishes_from}
 use Rattle.delta_score.proofs.Late.{late_or_in_time, late_starts_after, in_time_starts_by}
 use Rattle.delta_score.proofs.Returned.{same_place, write_segment_is, one_write, write_between}

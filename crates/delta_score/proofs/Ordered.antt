@@ -10,7 +10,7 @@ use Rattle.stale_model.specs.declared.KeyOps.{KeyOps}
 use Rattle.stale_model.specs.declared.Cluster.{Cluster}
 use Rattle.stale_model.specs.Operations.{initial_write, operations, records_of, earliest_start, latest_finish}
 use Rattle.stale_model.specs.Valid.{IsValidOp, IsValidKey}
-use Rattle.stale_model.specs.Faults.{IsWriteOf, IsReadIn, IsClearKey}
+use Rattle.stale_model.specs.Faults.{IsWriteOf, IsReadIn, HasNone, IsEarly}
 use Rattle.stale_model.specs.Clusters.{AreClusters, writes_of}
 use Rattle.stale_model.specs.NamedWrites.{NamesItsWrites}
 use Rattle.stale_model.specs.Precedence.{Precedes}
@@ -19,7 +19,7 @@ use Rattle.stale_model.specs.OperationOrders.{write_place, segment, operation_or
 use Rattle.stale_model.specs.Zones.{HasNoCrossing}
 use Rattle.model_laws.proofs.Named.{matched_keys_name_their_writes}
 use Rattle.stale_model.proofs.ReadsAndWrites.{reads_or_writes}
-use Rattle.delta_score.specs.ZoneLaws.{ZoneOrdersAreOrders}
+use Rattle.delta_score.specs.ZoneLaws.{ZoneOrdersAreOrders, FinishFromStart, MatchedKeysAreOrderable, ZoneOrdersOfAnyAreOrders}
 use Rattle.model_laws.proofs.Between.{starts_by}
 use Rattle.model_laws.proofs.ClustersOne.{valid_records_differ}
 use Rattle.delta_score.proofs.Once.{each_once_in_order}
@@ -38,11 +38,14 @@ starts_before_finish key a valid (suc i, within, is) =
     let ordered = v.ordered in
     cond_both (a.rec == 0) 0 (max 1 (a.start - a.slack)) (λ n. n ≤ latest_finish a) (λ _. omega arith) (λ _. omega arith)
 
--- operations finish from their start on
-abbrev pub FinishFromStart : List Op → Type 0
-FinishFromStart ops = (a : Op) → Contains ops a → earliest_start a ≤ latest_finish a
+pub matched_keys_are_orderable : MatchedKeysAreOrderable
+matched_keys_are_orderable key valid matched = record {
+  records = valid_records_differ key valid;
+  names = matched_keys_name_their_writes key valid matched;
+  finish = λ a there. starts_before_finish key a valid there;
+}
 
-module _ (ops : List Op) (d : ℕ) (clusters zones : List Cluster) (names : NamesItsWrites ops) (clear : IsClearKey ops) (finish : FinishFromStart ops) (are : AreClusters ops clusters)
+module _ (ops : List Op) (d : ℕ) (clusters zones : List Cluster) (names : NamesItsWrites ops) (no_early : HasNone (IsEarly ops)) (finish : FinishFromStart ops) (are : AreClusters ops clusters)
     (each : IsPermutation clusters zones) (free : HasNoCrossing d zones) where
   same : AreSameClusters clusters zones
   same = same_in_order clusters zones each
@@ -68,7 +71,7 @@ module _ (ops : List Op) (d : ℕ) (clusters zones : List Cluster) (names : Name
             let low = rw write at precedes in
             let of_a : IsWriteOf ops a.value b = record { there = cb; kind = write; value_is = sym value } in
             elim (reads_or_writes a) [
-              | inl read ↦ absurd (clear.no_early a (record { read = record { there = ca; kind = read }; before = (b, of_a, omega arith) }))
+              | inl read ↦ absurd (no_early a (record { read = record { there = ca; kind = read }; before = (b, of_a, omega arith) }))
               | inr writes ↦
                   let e : a ≡ b = names.once a.value a b (record { there = ca; kind = writes; value_is = refl }) of_a in
                   let f : earliest_start a ≡ earliest_start b = ap earliest_start e in
@@ -123,9 +126,12 @@ module _ (ops : List Op) (d : ℕ) (clusters zones : List Cluster) (names : Name
           (w, ww, last_write_before w r ww rr);
     }
 
+pub zone_orders_of_any_are_orders : ZoneOrdersOfAnyAreOrders
+zone_orders_of_any_are_orders ops d clusters zones order able no_early are each free is =
+    rw is.records
+    (is_order ops d clusters zones able.names no_early able.finish are each free is.sorted is.each_once is.in_order
+    (each_once_in_order (λ (a : Op). a.rec) ops is.sorted able.records is.each_once))
+
 pub zone_orders_are_orders : ZoneOrdersAreOrders
 zone_orders_are_orders key d clusters zones order valid clear are each free is =
-    let once = valid_records_differ key valid in
-    rw is.records
-    (is_order (operations key) d clusters zones (matched_keys_name_their_writes key valid clear.matched) clear (λ a there. starts_before_finish key a valid there) are each free is.sorted is.each_once is.in_order
-    (each_once_in_order (λ (a : Op). a.rec) (operations key) is.sorted once is.each_once))
+    zone_orders_of_any_are_orders (operations key) d clusters zones order (matched_keys_are_orderable key valid clear.matched) clear.no_early are each free is

@@ -1,15 +1,15 @@
 -- The zone theorem (Gibbons and Korach 1997), where reads are taken to start d earlier (Golab, Li and Shah 2011).
-use Rattle.std.specs.Prelude.{ℕ, ◌↔◌, List}
+use Rattle.std.specs.Prelude.{ℕ, ◌≤◌, ◌↔◌, List, Contains}
 use Rattle.std.specs.List.Sorted.{IsPermutation}
 use Rattle.stale_model.specs.declared.Op.{Op}
 use Rattle.stale_model.specs.declared.KeyOps.{KeyOps}
 use Rattle.stale_model.specs.declared.Cluster.{Cluster}
-use Rattle.stale_model.specs.Operations.{operations}
+use Rattle.stale_model.specs.Operations.{operations, records_of, earliest_start, latest_finish}
 use Rattle.stale_model.specs.Valid.{IsValidKey}
 use Rattle.stale_model.specs.Faults.{HasNone, IsEarly, IsMatchedKey, IsClearKey}
 use Rattle.stale_model.specs.Clusters.{writes_of, AreClusters}
 use Rattle.stale_model.specs.NamedWrites.{NamesItsWrites}
-use Rattle.stale_model.specs.Orders.{ListsEachOnce, IsOrder}
+use Rattle.stale_model.specs.Orders.{IsWithoutRepeats, ListsEachOnce, IsOrder}
 use Rattle.stale_model.specs.LeastDelta.{HasOrder}
 use Rattle.stale_model.specs.Zones.{HasNoConflict, HasNoCrossing, IsPairOf, four_of}
 use Rattle.stale_model.specs.OperationOrders.{IsOperationOrder}
@@ -46,3 +46,33 @@ ClustersListWrites = (ops : List Op) (clusters zones : List Cluster) → AreClus
 abbrev pub ZoneTheorem : Type 0
 ZoneTheorem = (key : KeyOps) (d : ℕ) (clusters : List Cluster) → IsValidKey key → IsMatchedKey (operations key) → AreClusters (operations key) clusters
     → HasOrder (operations key) d 1 ↔ IsConflictFree (operations key) d clusters
+
+-- no operation finishes before it starts
+abbrev pub FinishFromStart : List Op → Type 0
+FinishFromStart ops = (a : Op) → Contains ops a → earliest_start a ≤ latest_finish a
+
+-- all that the zone theorem asks of operations: no record stands twice, each value has exactly one write, and none finishes before it starts
+pub record AreOrderable (ops : List Op) : Type 0 where
+  pub records : IsWithoutRepeats (records_of ops)
+  pub names : NamesItsWrites ops
+  pub finish : FinishFromStart ops
+
+-- the operations of a valid key that is neither duplicate nor unmatched are so
+abbrev pub MatchedKeysAreOrderable : Type 0
+MatchedKeysAreOrderable = (key : KeyOps) → IsValidKey key → IsMatchedKey (operations key) → AreOrderable (operations key)
+
+-- for any operations: where there is an order with k = 1 at d, no read is early and no two clusters conflict at d
+abbrev pub OrdersOfAnyExcludeConflicts : Type 0
+OrdersOfAnyExcludeConflicts = (ops : List Op) (d : ℕ) (clusters : List Cluster) → NamesItsWrites ops → AreClusters ops clusters → HasOrder ops d 1
+    → IsConflictFree ops d clusters
+
+-- for any operations: where no read is early and no zone crosses an earlier one at d, the operations in the order of the zones are an order with k = 1 at d
+abbrev pub ZoneOrdersOfAnyAreOrders : Type 0
+ZoneOrdersOfAnyAreOrders = (ops : List Op) (d : ℕ) (clusters zones : List Cluster) (order : List ℕ) → AreOrderable ops → HasNone (IsEarly ops)
+    → AreClusters ops clusters → IsPermutation clusters zones → HasNoCrossing d zones → IsOperationOrder ops d 1 (writes_of zones) order
+    → IsOrder ops d 1 order
+
+-- for any operations: there is an order with k = 1 at d exactly where no read is early and no two clusters conflict at d
+abbrev pub ZoneTheoremOfAny : Type 0
+ZoneTheoremOfAny = (ops : List Op) (d : ℕ) (clusters : List Cluster) → AreOrderable ops → AreClusters ops clusters
+    → HasOrder ops d 1 ↔ IsConflictFree ops d clusters

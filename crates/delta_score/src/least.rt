@@ -100,8 +100,8 @@ fn least_within(alloc: Global, clusters: &[Cluster], bounds: Bounds) -> Result<u
     Ok(least_between(&sorted, bounds))
 }
 
-// The write records in the zone order at d, where no two clusters are in conflict.
-fn order_at(alloc: Global, d: u64, clusters: &[Cluster]) -> Result<List<u32>, Memory>
+/// The write records in the zone order at d, where no two clusters are in conflict. The error is want of memory.
+pub fn order_at(alloc: Global, d: u64, clusters: &[Cluster]) -> Result<List<u32>, Memory>
     requires differ { WriteRecordsDiffer clusters.now }
     requires apart { HasNoConflict d clusters.now }
     ensures { IfOk result (IsOrderOf d clusters.now) }
@@ -123,8 +123,8 @@ fn last_record(d: u64, cluster: &Cluster) -> u32
     }
 }
 
-// The records of the pair at d, where some two clusters are in conflict.
-fn four_at(alloc: Global, d: u64, clusters: &[Cluster]) -> Result<Four, Memory>
+/// The records of the pair at d, where some two clusters are in conflict. The error is want of memory.
+pub fn four_at(alloc: Global, d: u64, clusters: &[Cluster]) -> Result<Four, Memory>
     requires differ { WriteRecordsDiffer clusters.now }
     requires conflict { HasConflict d clusters.now }
     ensures { IfOk result (IsFourOfPair clusters.now d) }

@@ -13,13 +13,14 @@ mod score;
 mod zone_laws;
 
 pub use existence_laws::{least_deltas_exist, operation_orders_exist};
-pub use least::{Least, least_delta};
+pub use least::{Least, four_at, least_delta, order_at};
 pub use listing_laws::listings_are_orders;
 pub use order::op_order;
 pub use score::pair_score;
 pub use zone_laws::{
-    clusters_list_writes, orders_exclude_conflicts, pairs_show_four, zone_orders_are_orders,
-    zone_theorem,
+    clusters_list_writes, matched_keys_are_orderable, orders_exclude_conflicts,
+    orders_of_any_exclude_conflicts, pairs_show_four, zone_orders_are_orders,
+    zone_orders_of_any_are_orders, zone_theorem, zone_theorem_of_any,
 };
 
 #[cfg(test)]

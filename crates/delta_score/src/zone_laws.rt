@@ -2,6 +2,7 @@
 //! contracts are all that they are for.
 
 ghost use Rattle.delta_score.specs.ZoneLaws.{PairsShowFour, OrdersExcludeConflicts, ZoneOrdersAreOrders, ClustersListWrites, ZoneTheorem};
+ghost use Rattle.delta_score.specs.ZoneLaws.{MatchedKeysAreOrderable, OrdersOfAnyExcludeConflicts, ZoneOrdersOfAnyAreOrders, ZoneTheoremOfAny};
 
 /// The four records of the pair of the zone order at d hold at d.
 pub fn pairs_show_four()
@@ -29,4 +30,27 @@ pub fn clusters_list_writes()
 /// exactly where no read is early and no two clusters conflict.
 pub fn zone_theorem()
     ensures { ZoneTheorem }
+{}
+
+/// The operations of a valid key that is neither duplicate nor unmatched have all that the zone theorem asks of
+/// operations.
+pub fn matched_keys_are_orderable()
+    ensures { MatchedKeysAreOrderable }
+{}
+
+/// [`orders_exclude_conflicts`] for any operations that name their writes.
+pub fn orders_of_any_exclude_conflicts()
+    ensures { OrdersOfAnyExcludeConflicts }
+{}
+
+/// [`zone_orders_are_orders`] for any operations whose records differ, that name their writes, and of which none
+/// finishes before it starts.
+pub fn zone_orders_of_any_are_orders()
+    ensures { ZoneOrdersOfAnyAreOrders }
+{}
+
+/// [`zone_theorem`] for any operations whose records differ, that name their writes, and of which none finishes before
+/// it starts.
+pub fn zone_theorem_of_any()
+    ensures { ZoneTheoremOfAny }
 {}

@@ -1,6 +1,7 @@
 use Rattle.stale_model.specs.Operations.{operations}
 use Rattle.stale_model.proofs.ClustersOne.{cluster_writes_differ}
-use Rattle.audit_workers.proofs.Clear.{starts_by_finish, writes_listed, judged}
+use Rattle.delta_score.proofs.Starts.{starts_by_finish}
+use Rattle.audit_workers.proofs.Clear.{writes_listed, judged}
 use Rattle.audit_workers.proofs.judge_clear.Goals as goal
 
 pub least_delta-requires-clause-differ : goal.least_delta-requires-clause-differ
