@@ -4,12 +4,10 @@ use Rattle.std.specs.Prelude.{slice_get, is_some, All}
 use Rattle.std.proofs.lemmas.List.{map-append, reverse-append}
 use Rattle.std.proofs.lemmas.List.Elements.{All-append, All-nil}
 use Rattle.stale_model.specs.declared.Cluster.{Cluster}
-use Rattle.stale_model.specs.declared.Try.{Try}
-use Rattle.stale_model.specs.declared.Two.{Two}
-use Rattle.stale_model.specs.declared.Two.TheVariants.{Yes, No}
+use Rattle.stale_model.specs.declared.Two.TheVariants.{Yes}
 use Rattle.stale_model.specs.Chains.{Round, removes, refutes, rounds, epoch_by, epochs, without, writes_of}
 use Rattle.lbt_epochs.specs.Lists.{Lists, with_placed, left, cluster_at}
-use Rattle.lbt_epochs.specs.Steps.{clusters_left, rounds_of, IsReady, HasRemoved, HasKept}
+use Rattle.lbt_epochs.specs.Steps.{clusters_left, rounds_of, epochs_of, IsReady, HasRemoved, HasRefuted, HasPlacedAll, HasStopped}
 use Rattle.lbt_epochs.proofs.Removed.{fewer_after_rounds}
 use Rattle.lbt_epochs.proofs.WritesOfPlaces.{mapped_reverse}
 use Rattle.lbt_epochs.proofs.LeftWithout.{left_without, ready_with}
@@ -32,7 +30,7 @@ pub record AreEpochsSoFar (d : ℕ) (clusters : List Cluster) (old lists : Lists
   pub within : All (λ place. place < length clusters) lists.placed
   pub more : ℕ
   pub enough : length (clusters_left clusters lists) ≤ more
-  pub epochs_are : epochs d (length (clusters_left clusters old)) (clusters_left clusters old) [] ≡ epochs d more (clusters_left clusters lists) (listing_of clusters lists)
+  pub epochs_are : epochs_of d clusters old ≡ epochs d more (clusters_left clusters lists) (listing_of clusters lists)
 
 -- more places go in front of the listing, the first of them last
 listing_more : (clusters : List Cluster) (placed places : List ℕ)
@@ -67,9 +65,6 @@ one_before zero l = absurd (omega arith)
 one_before (suc before) l = (before, refl)
 
 module _ (d : ℕ) (clusters : List Cluster) (old : Lists) where
-  abbrev all_epochs : Option Two
-  all_epochs = epochs d (length (clusters_left clusters old)) (clusters_left clusters old) []
-
   pub epochs_begin : old.placed ≡ [] → AreEpochsSoFar d clusters old old
   epochs_begin none =
       let listing : listing_of clusters old ≡ [] = rw none refl in
@@ -87,14 +82,17 @@ module _ (d : ℕ) (clusters : List Cluster) (old : Lists) where
     ready_yet = subst (λ (l : Lists). IsReady clusters l) (sym so_far.placed) (ready_with clusters old lists.placed ready)
 
     -- nothing is left
-    pub epochs_end : slice_get (left lists.placed lists.candidates) 0 ≡ None → all_epochs ≡ Some (Yes (writes_of (listing_of clusters lists)))
-    epochs_end over =
-        so_far.epochs_are ∙ epochs_over d so_far.more (clusters_left clusters lists) (listing_of clusters lists)
-        (ap (map (cluster_at clusters)) (nothing_left (left lists.placed lists.candidates) over))
+    pub epochs_end : slice_get (left lists.placed lists.candidates) 0 ≡ None → HasPlacedAll d clusters old lists
+    epochs_end over = record {
+      placed = so_far.placed;
+      within = so_far.within;
+      answer = so_far.epochs_are ∙ epochs_over d so_far.more (clusters_left clusters lists) (listing_of clusters lists)
+          (ap (map (cluster_at clusters)) (nothing_left (left lists.placed lists.candidates) over));
+    }
 
     -- one more epoch, of which rounds find this
     by_round : (more : ℕ) (found : Round) → so_far.more ≡ suc more → (slice_get (left lists.placed lists.candidates) 0 ≡ None → ⊥) → rounds_of d clusters lists ≡ found
-        → all_epochs ≡ epoch_by (clusters_left clusters lists) found (λ chain. epochs d more (without (clusters_left clusters lists) chain) (reverse chain ++ listing_of clusters lists))
+        → epochs_of d clusters old ≡ epoch_by (clusters_left clusters lists) found (λ chain. epochs d more (without (clusters_left clusters lists) chain) (reverse chain ++ listing_of clusters lists))
     by_round more found e some is =
         so_far.epochs_are ∙ ap (λ (n : ℕ). epochs d n (clusters_left clusters lists) (listing_of clusters lists)) e
         ∙ epochs_step d more (clusters_left clusters lists) (listing_of clusters lists) (something_left clusters (left lists.placed lists.candidates) some)
@@ -135,8 +133,14 @@ module _ (d : ℕ) (clusters : List Cluster) (old : Lists) where
         }
 
     -- what is left is refuted
-    pub epochs_refuted : (slice_get (left lists.placed lists.candidates) 0 ≡ None → ⊥) → (new : Lists) (tries : List Try) → HasKept (rounds_of d clusters lists) (refutes tries) lists new
-        → all_epochs ≡ Some (No (record { stuck = writes_of (clusters_left clusters new); tries = tries }))
-    epochs_refuted some new tries kept =
+    pub epochs_stop : (slice_get (left lists.placed lists.candidates) 0 ≡ None → ⊥) → (room : ℕ) (new : Lists) → HasRefuted d clusters room lists new
+        → HasStopped d clusters room old new
+    epochs_stop some room new refuted =
         let (before, is) = one_more some in
-        by_round before (refutes tries) is some kept.round_is ∙ ap (λ (l : Lists). Some (No (record { stuck = writes_of (clusters_left clusters l); tries = tries }))) (sym kept.kept)
+        let here : HasStopped d clusters room old lists = record {
+          placed = so_far.placed;
+          ready = ready_yet;
+          stuck = refuted.stuck;
+          answer = λ tries e. by_round before (refutes tries) is some (refuted.rounds_are ∙ e);
+        } in
+        subst (λ (l : Lists). HasStopped d clusters room old l) (sym refuted.kept) here

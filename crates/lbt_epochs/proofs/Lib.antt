@@ -39,5 +39,6 @@ pub mod RoundSoFar
 pub mod RoundsSoFar
 pub mod EpochsSoFar
 pub mod FirstCandidates
+pub mod ToldListings
 -- The writes of a test.
 pub mod WritesInTurn

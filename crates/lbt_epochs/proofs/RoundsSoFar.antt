@@ -5,9 +5,7 @@ use Rattle.std.proofs.lemmas.List.{length-map}
 use Rattle.stale_model.specs.declared.Cluster.{Cluster}
 use Rattle.stale_model.specs.Chains.{Round, removes, repeats, refutes, round, or_later, rounds}
 use Rattle.lbt_epochs.specs.Lists.{Lists, left, cluster_at}
-use Rattle.lbt_epochs.specs.Steps.{clusters_left, room_in, rounds_of, IsReady, HasKept, IsFound}
-use Rattle.lbt_epochs.specs.declared.rounds.Found.{Found}
-use Rattle.lbt_epochs.specs.declared.rounds.Found.TheVariants.{Removes, Refutes}
+use Rattle.lbt_epochs.specs.Steps.{clusters_left, room_in, rounds_of, round_of, IsReady, HasKept, HasRemoved, HasStuck, HasRefuted}
 use Rattle.lbt_epochs.proofs.LeftPlaces.{left_no_more}
 use Rattle.lbt_epochs.proofs.EnoughRoom.{round_room, rounds_end}
 
@@ -36,7 +34,7 @@ module _ (d : ℕ) (clusters : List Cluster) (old : Lists) where
     ready_still = subst (λ (l : Lists). IsReady clusters l) (sym so_far.kept) ready
 
     -- a round with this room is the round of its number
-    round_is : (found : Round) → round d (room_in r) (clusters_left clusters lists) (clusters_left clusters lists) ≡ found → round_at r ≡ found
+    round_is : (found : Round) → round_of d clusters (room_in r) lists ≡ found → round_at r ≡ found
     round_is found e =
         let n = clusters_left_no_more clusters old ready in
         sym (round_room d r (clusters_left clusters old) (clusters_left clusters old) (omega arith)) ∙ rw so_far.kept at e
@@ -58,7 +56,7 @@ module _ (d : ℕ) (clusters : List Cluster) (old : Lists) where
     found_now found e f = now_or_later ∙ ap (λ (k : Round). or_later k (rounds d (length (clusters_left clusters old) - r) (r + 1) (clusters_left clusters old))) e ∙ f
 
     -- the round repeated
-    pub rounds_go_on : (new : Lists) → HasKept (round d (room_in r) (clusters_left clusters lists) (clusters_left clusters lists)) repeats lists new → AreRoundsSoFar d clusters old new (r + 1)
+    pub rounds_go_on : (new : Lists) → HasKept (round_of d clusters (room_in r) lists) repeats lists new → AreRoundsSoFar d clusters old new (r + 1)
     rounds_go_on new repeated =
         let l = one_of (length (clusters_left clusters old)) refl in
         let z : length (clusters_left clusters old) + 1 - (r + 1) ≡ length (clusters_left clusters old) - r = omega arith in
@@ -67,16 +65,25 @@ module _ (d : ℕ) (clusters : List Cluster) (old : Lists) where
           rounds_are = rw z (now_or_later ∙ ap (λ (k : Round). or_later k (rounds d (length (clusters_left clusters old) - r) (r + 1) (clusters_left clusters old))) (round_is repeats repeated.round_is));
         }
 
-    -- the round found something
-    pub rounds_found : (new : Lists) (found : Found) → IsFound clusters (round d (room_in r) (clusters_left clusters lists) (clusters_left clusters lists)) lists new found
-        → IsFound clusters (rounds_of d clusters old) old new found
-    rounds_found new Removes is = record {
+    -- the round removed a chain
+    pub rounds_removed : (new : Lists) → HasRemoved clusters (round_of d clusters (room_in r) lists) lists new → HasRemoved clusters (rounds_of d clusters old) old new
+    rounds_removed new is = record {
       places = is.places;
       placed = rw so_far.kept at is.placed;
       within = is.within;
       round_is = found_now (removes (map (cluster_at clusters) is.places)) (round_is (removes (map (cluster_at clusters) is.places)) is.round_is) refl;
     }
-    rounds_found new (Refutes tries) is = record { kept = is.kept ∙ so_far.kept; round_is = found_now (refutes tries) (round_is (refutes tries) is.round_is) refl }
+
+    -- the round is stuck
+    pub rounds_stuck : (new : Lists) → HasStuck (round_of d clusters (room_in r) lists) lists new → HasRefuted d clusters (room_in r) old new
+    rounds_stuck new is =
+        let tries = is.stuck.tries in
+        let refuted : round_of d clusters (room_in r) old ≡ refutes tries = rw so_far.kept at is.stuck.round_is in
+        record {
+          kept = is.kept ∙ so_far.kept;
+          stuck = record { tries = tries; round_is = refuted };
+          rounds_are = found_now (refutes tries) (round_is (refutes tries) is.stuck.round_is) refl ∙ sym refuted;
+        }
 
     -- so there are no more rounds than these
     pub rounds_over : length clusters < r → ⊥

@@ -1,17 +1,20 @@
 -- The steps of chains, rounds and epochs over places.
-use Rattle.std.specs.Prelude.{◌≡◌, ℕ, ◌+◌, ◌-◌, ◌^◌, ◌<◌, ◌≤◌, ◌++◌, [], ◌∷◌, min, nat_lt, if◌then◌else◌, List, map, length, Option, Some, None, All, Contains}
+use Rattle.std.specs.Prelude.{◌≡◌, ℕ, ◌+◌, ◌-◌, ◌^◌, ◌<◌, ◌≤◌, ◌++◌, [], ◌∷◌, min, nat_lt, if◌then◌else◌, List, map, reverse, length, Option, Some, None, All, Contains}
 use Rattle.stale_model.specs.declared.Cluster.{Cluster}
 use Rattle.stale_model.specs.declared.End.{End}
 use Rattle.stale_model.specs.declared.Try.{Try}
+use Rattle.stale_model.specs.declared.Two.{Two}
+use Rattle.stale_model.specs.declared.Two.TheVariants.{Yes, No}
 use Rattle.stale_model.specs.Clusters.{writes_of, WriteRecordsDiffer}
 use Rattle.stale_model.specs.Zones.{reads_start}
-use Rattle.stale_model.specs.Chains.{without, demand, Demand, nothing, one, impossible, chain, Chain, ends, fails, cut, Round, removes, repeats, refutes, rounds}
+use Rattle.stale_model.specs.Chains.{without, demand, Demand, nothing, one, impossible, chain, Chain, ends, fails, cut, Round, removes, repeats, refutes, round, rounds, epochs}
 use Rattle.lbt_epochs.specs.Lists.{Lists, with_placed, left, cluster_at, AreListsOf}
 use Rattle.lbt_epochs.specs.declared.chains.Asked.{Asked}
 use Rattle.lbt_epochs.specs.declared.chains.Asked.TheVariants.{Nothing, One, Impossible}
 use Rattle.lbt_epochs.specs.declared.chains.Ran.{Ran}
 use Rattle.lbt_epochs.specs.declared.rounds.Went.{Went}
 use Rattle.lbt_epochs.specs.declared.rounds.Found.{Found}
+use Rattle.lbt_epochs.specs.declared.epochs.Ended.{Ended}
 
 -- the clusters that are not placed, in candidate order
 abbrev pub clusters_left : List Cluster → Lists → List Cluster
@@ -117,41 +120,74 @@ pub record HasThreeLateReads (d f : ℕ) (left : List Cluster) : Type 0 where
   pub y_not_z : y.write ≡ z.write → ⊥
 
 -- the round removes the chain of these places, which stays placed
-pub record HasRemoved (clusters : List Cluster) (round : Round) (old new : Lists) : Type 0 where
+pub record HasRemoved (clusters : List Cluster) (went : Round) (old new : Lists) : Type 0 where
   pub places : List ℕ
   pub placed : new ≡ with_placed old (old.placed ++ places)
   pub within : All (λ place. place < length clusters) places
-  pub round_is : round ≡ removes (map (cluster_at clusters) places)
+  pub round_is : went ≡ removes (map (cluster_at clusters) places)
 
 -- the round is this one, and nothing more is placed than before
-pub record HasKept (round is : Round) (old new : Lists) : Type 0 where
+pub record HasKept (went is : Round) (old new : Lists) : Type 0 where
   pub kept : new ≡ old
-  pub round_is : round ≡ is
+  pub round_is : went ≡ is
 
 -- some tries refute what is left in the round
-pub record IsStuck (round : Round) : Type 0 where
+pub record IsStuck (went : Round) : Type 0 where
   pub tries : List Try
-  pub round_is : round ≡ refutes tries
+  pub round_is : went ≡ refutes tries
 
 -- the round is stuck, and nothing more is placed than before
-pub record HasStuck (round : Round) (old new : Lists) : Type 0 where
+pub record HasStuck (went : Round) (old new : Lists) : Type 0 where
   pub kept : new ≡ old
-  pub stuck : IsStuck round
+  pub stuck : IsStuck went
 
 -- the round went so
 abbrev pub WentSo : List Cluster → Round → Lists → Lists → Went → Type 0
-WentSo clusters round old new Went.Removes = HasRemoved clusters round old new
-WentSo clusters round old new Went.Repeats = HasKept round repeats old new
-WentSo clusters round old new Went.Refutes = HasStuck round old new
-
--- what was found is what the rounds give
-abbrev pub IsFound : List Cluster → Round → Lists → Lists → Found → Type 0
-IsFound clusters round old new Found.Removes = HasRemoved clusters round old new
-IsFound clusters round old new (Found.Refutes tries) = HasKept round (refutes tries) old new
+WentSo clusters went old new Went.Removes = HasRemoved clusters went old new
+WentSo clusters went old new Went.Repeats = HasKept went repeats old new
+WentSo clusters went old new Went.Refutes = HasStuck went old new
 
 -- the rounds of the clusters that are not placed
 abbrev pub rounds_of : ℕ → List Cluster → Lists → Round
 rounds_of d clusters lists = let left = clusters_left clusters lists in rounds d (length left + 1) 0 left
+
+-- the round with this room over the clusters that are not placed
+abbrev pub round_of : ℕ → List Cluster → ℕ → Lists → Round
+round_of d clusters room lists = let left = clusters_left clusters lists in round d room left left
+
+-- the rounds come to the one with this room, which is stuck, and nothing more is placed than before
+pub record HasRefuted (d : ℕ) (clusters : List Cluster) (room : ℕ) (old new : Lists) : Type 0 where
+  pub kept : new ≡ old
+  pub stuck : IsStuck (round_of d clusters room old)
+  pub rounds_are : rounds_of d clusters old ≡ round_of d clusters room old
+
+-- what was found is what the rounds give
+abbrev pub IsFound : ℕ → List Cluster → Lists → Lists → Found → Type 0
+IsFound d clusters old new Found.Removes = HasRemoved clusters (rounds_of d clusters old) old new
+IsFound d clusters old new (Found.Refutes room) = HasRefuted d clusters room old new
+
+-- the epochs of the clusters that are not placed
+abbrev pub epochs_of : ℕ → List Cluster → Lists → Option Two
+epochs_of d clusters lists = let left = clusters_left clusters lists in epochs d (length left) left []
+
+-- the epochs placed all clusters, the last ones of the listing first
+pub record HasPlacedAll (d : ℕ) (clusters : List Cluster) (old new : Lists) : Type 0 where
+  pub placed : new ≡ with_placed old new.placed
+  pub within : All (λ place. place < length clusters) new.placed
+  pub answer : epochs_of d clusters old ≡ Some (Yes (writes_of (map (cluster_at clusters) (reverse new.placed))))
+
+-- the epochs came to a round with this room, which is stuck: its tries refute what they left
+pub record HasStopped (d : ℕ) (clusters : List Cluster) (room : ℕ) (old new : Lists) : Type 0 where
+  pub placed : new ≡ with_placed old new.placed
+  pub ready : IsReady clusters new
+  pub stuck : IsStuck (round_of d clusters room new)
+  pub answer : (tries : List Try) → round_of d clusters room new ≡ refutes tries
+      → epochs_of d clusters old ≡ Some (No (record { stuck = writes_of (clusters_left clusters new); tries = tries }))
+
+-- the epochs ended so
+abbrev pub HaveEnded : ℕ → List Cluster → Lists → Lists → Ended → Type 0
+HaveEnded d clusters old new Ended.AllPlaced = HasPlacedAll d clusters old new
+HaveEnded d clusters old new (Ended.Stuck room) = HasStopped d clusters room old new
 
 -- how many clusters a chain has at most after its first in this round: no fewer than there are, where there are fewer than 2^32
 abbrev pub room_in : ℕ → ℕ

@@ -8,8 +8,8 @@ use crate::lists::{Lists, cluster_at};
 use stale_model::{Cluster, List, Memory, Try};
 use std::alloc::Global;
 
-// Undoes what was placed last, until `count` are placed.
-fn undo_to(lists: &mut Lists, count: usize)
+/// Undoes what was placed last, until `count` are placed.
+pub(crate) fn undo_to(lists: &mut Lists, count: usize)
     ensures { lists.new ≡ with_placed lists.old (take count lists.old.placed) }
 {
     while count < lists.placed().len() {

@@ -1,13 +1,14 @@
 //! Epochs: the listing of clusters that they find, or the refutation with which one of them ends.
-ghost use Rattle.std.specs.Prelude.{◌≡◌, [], ◌^◌, ◌<◌, length, map, reverse, All, Some, IfOk};
-ghost use Rattle.stale_model.specs.Chains.{IsAnswer, epochs};
+ghost use Rattle.std.specs.Prelude.{◌≡◌, ◌↔◌, [], ◌^◌, ◌<◌, length, map, reverse, All, Some, IfOk, IsTrue};
+ghost use Rattle.stale_model.specs.Chains.{IsAnswer};
 ghost use Rattle.stale_model.specs.Clusters.{writes_of, WriteRecordsDiffer};
-ghost use Rattle.lbt_epochs.specs.Lists.{cluster_at};
-ghost use Rattle.lbt_epochs.specs.Steps.{clusters_left, IsReady};
+ghost use Rattle.lbt_epochs.specs.Lists.{cluster_at, AreListsOf};
+ghost use Rattle.lbt_epochs.specs.Steps.{clusters_left, epochs_of, IsReady, HaveEnded};
+ghost use Rattle.lbt_epochs.specs.TwoLaws.{HasListing};
 
-use crate::candidates::writes_at;
+use crate::candidates::{undo_to, writes_at};
 use crate::lists::{Lists, cluster_at};
-use crate::rounds::{Found, rounds};
+use crate::rounds::{Found, failed_tries, rounds};
 use stale_model::{Cluster, List, Memory, Refutation, Two};
 use std::alloc::Global;
 
@@ -39,21 +40,59 @@ fn writes_reversed(alloc: Global, clusters: &[Cluster], places: &[u32]) -> Resul
     Ok(List::from_vec(writes))
 }
 
+// How epochs ended.
+#[derive(Clone, Copy)]
+enum Ended {
+    AllPlaced,
+    // Each candidate fails in a round with this room.
+    Stuck { room: u64 },
+}
+
 // Epochs, each with its rounds, until all clusters are placed or those left are refuted.
-fn epochs(alloc: Global, d: u64, clusters: &[Cluster], lists: &mut Lists) -> Result<Two, Memory>
+fn place_all(d: u64, clusters: &[Cluster], lists: &mut Lists) -> Ended
     requires ready { IsReady clusters.now lists.old }
     requires few { length clusters.now < 2 ^ 32 }
     requires unplaced { lists.old.placed ≡ [] }
-    ensures { let left = clusters_left clusters.now lists.old in
-        IfOk result (λ two. epochs d (length left) left [] ≡ Some two) }
+    ensures { HaveEnded d clusters.now lists.old lists.new result }
 {
     while lists.first_candidate().is_some() {
-        if let Found::Refutes(tries) = rounds(alloc, d, clusters, lists)? {
-            let stuck = left_writes(alloc, clusters, lists)?;
-            return Ok(Two::No(Refutation { stuck, tries }));
+        if let Found::Refutes { room } = rounds(d, clusters, lists) {
+            return Ended::Stuck { room };
         }
     }
-    Ok(Two::Yes(writes_reversed(alloc, clusters, lists.placed())?))
+    Ended::AllPlaced
+}
+
+// The listing or the refutation with which the epochs end.
+fn answer(alloc: Global, d: u64, clusters: &[Cluster], lists: &mut Lists) -> Result<Two, Memory>
+    requires ready { IsReady clusters.now lists.old }
+    requires few { length clusters.now < 2 ^ 32 }
+    requires unplaced { lists.old.placed ≡ [] }
+    ensures { IfOk result (λ two. epochs_of d clusters.now lists.old ≡ Some two) }
+{
+    match place_all(d, clusters, lists) {
+        Ended::AllPlaced => Ok(Two::Yes(writes_reversed(alloc, clusters, lists.placed())?)),
+        Ended::Stuck { room } => {
+            let tries = failed_tries(alloc, d, clusters, lists, room)?;
+            let stuck = left_writes(alloc, clusters, lists)?;
+            Ok(Two::No(Refutation { stuck, tries }))
+        }
+    }
+}
+
+/// Whether the clusters have a listing where reads are taken to start `d` ticks earlier. The lists are theirs, with none
+/// placed, and are given back so: those prepared once serve every d.
+pub fn has_listing_at(d: u64, clusters: &[Cluster], lists: &mut Lists) -> bool
+    requires lists { AreListsOf clusters.now lists.old }
+    requires differ { WriteRecordsDiffer clusters.now }
+    requires few { length clusters.now < 2 ^ 32 }
+    requires unplaced { lists.old.placed ≡ [] }
+    ensures tells { IsTrue result ↔ HasListing d clusters.now }
+    ensures kept { lists.new ≡ lists.old }
+{
+    let ended = place_all(d, clusters, lists);
+    undo_to(lists, 0);
+    matches!(ended, Ended::AllPlaced)
 }
 
 /// The listing of clusters from which orders of operations come in which each read, taken to start `d` ticks earlier,
@@ -67,7 +106,7 @@ pub fn two_atomic_at(alloc: Global, d: u64, clusters: &[Cluster]) -> Result<Two,
     ensures { IfOk result (IsAnswer d clusters.now) }
 {
     let mut lists = Lists::prepare(alloc, clusters)?;
-    epochs(alloc, d, clusters, &mut lists)
+    answer(alloc, d, clusters, &mut lists)
 }
 
 /// The same where reads are taken as they are.

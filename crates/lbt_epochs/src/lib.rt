@@ -10,7 +10,7 @@ mod lists;
 mod rounds;
 mod two_laws;
 
-pub use epochs::{two_atomic, two_atomic_at};
+pub use epochs::{has_listing_at, two_atomic, two_atomic_at};
 pub use lists::Lists;
 pub use two_laws::{
     answers_exist, answers_tell_whether_listed, listings_are_answered, refutations_are_answered,

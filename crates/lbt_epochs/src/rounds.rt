@@ -1,7 +1,7 @@
 //! Rounds: each candidate is tried as the next one, with more room for its chain from round to round.
 ghost use Rattle.std.specs.Prelude.{◌≡◌, ◌^◌, ◌<◌, length, IfOk};
 ghost use Rattle.stale_model.specs.Chains.{round, refutes};
-ghost use Rattle.lbt_epochs.specs.Steps.{clusters_left, room_in, rounds_of, IsReady, IsStuck, HasKept, IsFound, WentSo};
+ghost use Rattle.lbt_epochs.specs.Steps.{clusters_left, room_in, IsReady, IsStuck, HasKept, IsFound, WentSo};
 
 use crate::candidates::{all_fail_to, failed_try, try_candidate};
 use crate::chains::Ran;
@@ -20,11 +20,11 @@ enum Went {
 }
 
 /// What rounds found: a chain that ends, which stays placed, or that none does.
-#[derive(Drop)]
+#[derive(Clone, Copy)]
 pub(crate) enum Found {
     Removes,
-    /// One try for each candidate, in their order.
-    Refutes(List<Try>),
+    /// Each candidate fails in a round with this room.
+    Refutes { room: u64 },
 }
 
 // Tries each candidate in order, until the chain of one ends, or one was cut and all that are still to be tried fail.
@@ -54,8 +54,8 @@ fn round(d: u64, clusters: &[Cluster], lists: &mut Lists, room: u64) -> Went
     }
 }
 
-// The tries of a round in which each candidate fails, in their order.
-fn failed_tries(
+/// The tries of a round in which each candidate fails, in their order.
+pub(crate) fn failed_tries(
     alloc: Global,
     d: u64,
     clusters: &[Cluster],
@@ -88,26 +88,17 @@ fn room_in(round: usize) -> u64
 }
 
 /// Rounds, each with room for twice as long a chain, until no chain is cut in vain.
-pub(crate) fn rounds(
-    alloc: Global,
-    d: u64,
-    clusters: &[Cluster],
-    lists: &mut Lists,
-) -> Result<Found, Memory>
+pub(crate) fn rounds(d: u64, clusters: &[Cluster], lists: &mut Lists) -> Found
     requires ready { IsReady clusters.now lists.old }
     requires few { length clusters.now < 2 ^ 32 }
-    ensures { let rounds = rounds_of d clusters.now lists.old in
-        IfOk result (IsFound clusters.now rounds lists.old lists.new) }
+    ensures { IsFound d clusters.now lists.old lists.new result }
 {
     for r in 0..clusters.len() + 1 {
         let room = room_in(r);
         match round(d, clusters, lists, room) {
-            Went::Removes => return Ok(Found::Removes),
+            Went::Removes => return Found::Removes,
             Went::Repeats => {}
-            Went::Refutes => {
-                let tries = failed_tries(alloc, d, clusters, lists, room)?;
-                return Ok(Found::Refutes(tries));
-            }
+            Went::Refutes => return Found::Refutes { room },
         }
     }
     unreachable!()

@@ -141,6 +141,16 @@ fn reads_that_start_earlier(rt: HostRuntime) -> Result<(), Fail> {
     Ok(())
 }
 
+#[test]
+fn one_preparation_for_several_d(rt: HostRuntime) -> Result<(), Fail> {
+    let clusters = stale_read();
+    let mut lists = Lists::prepare(rt.alloc(), &clusters)?;
+    assert!(rt; has_listing_at(3, &clusters, &mut lists));
+    assert!(rt; !has_listing_at(2, &clusters, &mut lists));
+    assert!(rt; has_listing_at(3, &clusters, &mut lists));
+    Ok(())
+}
+
 // So many writes, each at a tick of its own, without reads.
 fn writes_in_turn(alloc: Global, count: u32) -> Result<Vec<Cluster>, AllocError>
     ensures { IfOk result (λ clusters. clusters.items ≡ map (λ tick. record {

@@ -7,4 +7,4 @@ pub returns : goal.returns
 returns c =
     let lists = c.in_ok-lists.lists in
     let order = candidates_are_left c.args.clusters.now lists c.in_ok-lists.ensures.lists c.in_ok-lists.ensures.placed in
-    IfOk-weaker c.epochs.result _ _ (λ two is. record { candidates = clusters_left c.args.clusters.now lists; order = order; answer = is }) c.epochs.ensures
+    IfOk-weaker c.answer.result _ _ (λ two is. record { candidates = clusters_left c.args.clusters.now lists; order = order; answer = is }) c.answer.ensures
