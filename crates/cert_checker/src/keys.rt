@@ -234,7 +234,7 @@ fn found_of(tables: &mut Tables, key: &KeyOps, verdict: &Verdict) -> Result<Foun
 /// record that is named: 1, it names the key's fault and its record, or is a judgement of a key without a fault (the
 /// record of the key's fault, else that of the verdict); 2 to 4, the order at delta (as `check_order` says); 5, the
 /// four records are there exactly where delta is not 0, and hold at delta - 1 (the first of them, or 0); 6 to 8, the
-/// order with the last two writes (as `check_order` says of 2 to 4); 9, the refutation (as `check_refutation` says).
+/// order with the last two writes (as `check_order` says of 2 to 4); 9, the refutation (as `check_refutation_at` says).
 /// The error says that memory ran out.
 pub fn check_key(alloc: Global, key: &KeyOps, verdict: &Verdict) -> Result<Found, Memory>
     requires { IsValidKey key.now }

@@ -6,7 +6,7 @@ pub fn orders_are_found_good()
     ensures { OrdersAreFoundGood }
 {}
 
-/// What `check_refutation` finds is good exactly where the refutation holds.
+/// What `check_refutation_at` finds is good exactly where the refutation holds at d.
 pub fn refutations_are_found_good()
     ensures { RefutationsAreFoundGood }
 {}

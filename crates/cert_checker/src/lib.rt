@@ -17,7 +17,7 @@ pub use laws::{
     verdicts_are_found_good,
 };
 pub use orders::check_order;
-pub use refutations::check_refutation;
+pub use refutations::{check_refutation, check_refutation_at};
 
 #[cfg(test)]
 mod tests;

@@ -359,10 +359,10 @@ pub(crate) fn refutation_fault(
 }
 
 /// Whether a refutation holds, so that no order of all operations exists in which each read returns one of the last
-/// two writes: no member of `stuck` can be the last write. Else rule 9, with the first entry of `stuck` that is the
-/// record of no write or stood before, else 0 where `stuck` is empty or has not as many tries, else the member of
-/// the first try that doesn't hold. For a valid key that is neither duplicate nor unmatched. The error says that
-/// memory ran out.
+/// two writes: [`check_refutation_at`] at 0.
+///
+/// # Errors
+/// `Memory` where memory ran out.
 pub fn check_refutation(
     alloc: Global,
     key: &KeyOps,
@@ -372,9 +372,30 @@ pub fn check_refutation(
     requires matched { IsMatchedKey (operations key.now) }
     ensures { IfOk result (FindsRefutation (operations key.now) 0 refutation.now) }
 {
+    check_refutation_at(alloc, 0, key, refutation)
+}
+
+/// Whether a refutation holds where reads are taken to start d ticks earlier, so that at d, and at any fewer ticks, no
+/// order of all operations exists in which each read returns one of the last two writes: no member of `stuck` can be
+/// the last write. Else rule 9, with the first entry of `stuck` that is the record of no write or stood before, else 0
+/// where `stuck` is empty or has not as many tries, else the member of the first try that doesn't hold. For a valid key
+/// that is neither duplicate nor unmatched.
+///
+/// # Errors
+/// `Memory` where memory ran out.
+pub fn check_refutation_at(
+    alloc: Global,
+    d: u64,
+    key: &KeyOps,
+    refutation: &Refutation,
+) -> Result<Found, Memory>
+    requires valid { IsValidKey key.now }
+    requires matched { IsMatchedKey (operations key.now) }
+    ensures { IfOk result (FindsRefutation (operations key.now) d refutation.now) }
+{
     let hints = Hints::of(alloc, key)?;
     let mut lists = RefutationLists::new(alloc);
-    match refutation_fault(&mut lists, 0, key, &hints, refutation)? {
+    match refutation_fault(&mut lists, d, key, &hints, refutation)? {
         None => Ok(Found::Good),
         Some(rec) => Ok(Found::Bad { rule: 9, rec }),
     }

@@ -220,6 +220,17 @@ fn refutation_of_a_read_of_the_third_last_write(rt: HostRuntime) -> Result<(), F
 }
 
 #[test]
+fn refutation_up_to_two_ticks(rt: HostRuntime) -> Result<(), Fail> {
+    let key = absent_key(rt.alloc())?;
+    let refutation = refutation_with(rt.alloc(), End::Hard { p: 0, u: 1 })?;
+    let at_two = check_refutation_at(rt.alloc(), 2, &key, &refutation)?;
+    assert_eq!(rt; at_two, Found::Good);
+    let at_three = check_refutation_at(rt.alloc(), 3, &key, &refutation)?;
+    assert_eq!(rt; at_three, Found::Bad { rule: 9, rec: 2 });
+    Ok(())
+}
+
+#[test]
 fn members_that_show_nothing(rt: HostRuntime) -> Result<(), Fail> {
     assert_eq!(rt; of_members(&rt, &[])?, Found::Bad { rule: 9, rec: 0 });
     assert_eq!(rt; of_members(&rt, &[1])?, Found::Bad { rule: 9, rec: 0 });
