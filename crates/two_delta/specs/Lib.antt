@@ -1,0 +1,2 @@
+pub mod LeastTwos
+pub mod Halving
