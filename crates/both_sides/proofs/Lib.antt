@@ -1,0 +1,10 @@
+pub mod Kept
+pub mod LaterFinishes
+pub mod EarlyClusters
+pub mod FreeClusters
+pub mod MoreSlack
+pub mod Pass
+pub mod Spans
+pub mod Ticks
+pub mod WriteStarts
+pub mod Raising
