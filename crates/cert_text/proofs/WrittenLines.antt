@@ -5,9 +5,7 @@ use Rattle.std.specs.Fmt.{decimal}
 use Rattle.stale_model.specs.declared.End.{End}
 use Rattle.stale_model.specs.declared.End.TheVariants.{Hard, Soft}
 use Rattle.stale_model.specs.declared.Judgement.{Judgement}
-use Rattle.stale_model.specs.declared.Refutation.{Refutation}
 use Rattle.stale_model.specs.declared.Try.{Try}
-use Rattle.stale_model.specs.declared.TwoPart.TheVariants.{Yes, No}
 use Rattle.stale_model.specs.declared.Verdict.{Verdict}
 use Rattle.stale_model.specs.declared.Verdict.TheVariants as verdict
 use Rattle.cert_text.specs.declared.lines.CertLine.{CertLine}
@@ -68,27 +66,6 @@ parts_behind old verdicts i v a b whole within is first second so_far =
     ap (λ t. t ++ left) (second ∙ ap (λ t. t ++ lines_text (verdict_lines v)) first)
     ∙ part_parts old (line_text (form.Key (i + 1))) (lines_text (verdict_lines v)) left
     ∙ ap (λ t. old ++ t) (sym (parts_text-drop verdicts i (i + 1) v within is)) ∙ so_far
-
--- whether a key is 2-atomic, behind a text
-yes_parts : (text a b : List ℕ) → text ++ (a ++ codes "\n") ++ b ++ codes "\n" ≡ text ++ (a ++ codes "\n" ++ (b ++ codes "\n" ++ []))
-yes_parts text a b = simp append_assoc refl
-
-pub yes_behind : (old : List ℕ) (order : List ℕ) (a b : List ℕ) → a ≡ old ++ codes "two yes\n" → b ≡ a ++ join_with_byte 32 (codes "order" ∷ map decimal order) ++ codes "\n"
-    → b ≡ old ++ lines_text (two_lines (Yes order))
-yes_behind old order a b first second =
-    let line = join_with_byte 32 (codes "order" ∷ map decimal order) in
-    second ∙ ap (λ t. t ++ line ++ codes "\n") first ∙ yes_parts old (codes "two yes") line
-
-no_parts : (text a b c : List ℕ) → text ++ (a ++ codes "\n") ++ b ++ codes "\n" ++ c ≡ text ++ (a ++ codes "\n" ++ (b ++ codes "\n" ++ c))
-no_parts text a b c = simp append_assoc refl
-
-pub no_behind : (old : List ℕ) (refutation : Refutation) (a b c : List ℕ) → a ≡ old ++ codes "two no\n"
-    → b ≡ a ++ join_with_byte 32 (codes "stuck" ∷ map decimal refutation.stuck) ++ codes "\n" → c ≡ b ++ lines_text (map form.Try refutation.tries)
-    → c ≡ old ++ lines_text (two_lines (No refutation))
-no_behind old refutation a b c first second third =
-    let line = join_with_byte 32 (codes "stuck" ∷ map decimal refutation.stuck) in
-    let tries = lines_text (map form.Try refutation.tries) in
-    third ∙ ap (λ t. t ++ tries) (second ∙ ap (λ t. t ++ line ++ codes "\n") first) ∙ no_parts old (codes "two no") line tries
 
 -- a judgement, behind a text
 judged_parts : (text a b p t : List ℕ) → text ++ a ++ codes "\n" ++ b ++ codes "\n" ++ p ++ t ≡ text ++ (a ++ codes "\n" ++ (b ++ codes "\n" ++ (p ++ t)))

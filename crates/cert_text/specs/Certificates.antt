@@ -2,6 +2,7 @@
 use Rattle.std.specs.Prelude.{ℕ, ◌+◌, nat_lt, Bool, true, List, [], ◌∷◌, ◌++◌, length, map, Option, Some, None}
 use Rattle.std.specs.List.{list_all}
 use Rattle.stale_model.specs.declared.Four.{Four}
+use Rattle.stale_model.specs.declared.Refutation.{Refutation}
 use Rattle.stale_model.specs.declared.Try.{Try}
 use Rattle.stale_model.specs.declared.TwoPart.{TwoPart}
 use Rattle.stale_model.specs.declared.TwoPart.TheVariants.{Yes, No}
@@ -30,10 +31,14 @@ abbrev pub pair_lines : Option Four → List CertLine
 pair_lines None = []
 pair_lines (Some four) = form.Pair four ∷ []
 
+-- the lines of a refutation: the clusters that are stuck, and a try for each
+abbrev pub refutation_lines : Refutation → List CertLine
+refutation_lines refutation = form.Stuck refutation.stuck ∷ map form.Try refutation.tries
+
 -- whether the key is 2-atomic, and what shows it
 abbrev pub two_lines : TwoPart → List CertLine
 two_lines (Yes order) = form.TwoYes ∷ form.Order order ∷ []
-two_lines (No refutation) = form.TwoNo ∷ form.Stuck refutation.stuck ∷ map form.Try refutation.tries
+two_lines (No refutation) = form.TwoNo ∷ refutation_lines refutation
 
 -- the lines of a verdict
 abbrev pub verdict_lines : Verdict → List CertLine

@@ -13,9 +13,10 @@ mod writing;
 
 use crate::parts::Reading;
 use crate::words::next_line;
+pub use lines::CertLine;
 use stale_model::{List, Memory, Verdict};
 use std::alloc::Global;
-pub use writing::write_cert;
+pub use writing::{push_numbers, push_order, push_refutation, write_cert};
 
 /// Why a text is not a certificate. Lines are counted from 1.
 #[derive(Clone, Copy, Debug, PartialEq, Eq)]

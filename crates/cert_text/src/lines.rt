@@ -27,7 +27,7 @@ pub(crate) enum Keyword {
 
 /// A line of a certificate.
 #[derive(Drop)]
-pub(crate) enum CertLine {
+pub enum CertLine {
     Header,
     Key(u32),
     Duplicate(u32),

@@ -5,14 +5,17 @@ ghost use Rattle.std.specs.List.{join_with_byte, list_all};
 ghost use Rattle.std.specs.String.{string_bytes};
 ghost use Rattle.cert_text.specs.declared.lines.CertLine.{CertLine};
 ghost use Rattle.cert_text.specs.Texts.{numbers_text, end_words, lines_text};
-ghost use Rattle.cert_text.specs.Certificates.{pair_lines, two_lines, verdict_lines, parts_lines, has_chains, cert_text};
+ghost use Rattle.cert_text.specs.Certificates.{pair_lines, refutation_lines, two_lines, verdict_lines, parts_lines, has_chains, cert_text};
 
 use itoa::Buffer;
 use stale_model::{Bytes, End, Four, Judgement, Memory, Refutation, Try, TwoPart, Verdict};
 use std::alloc::{AllocError, Global};
 
-// Puts numbers behind a text, each after a blank.
-fn push_numbers(text: &mut String, numbers: &[u32]) -> Result<(), AllocError>
+/// Puts numbers behind a text, each after a blank.
+///
+/// # Errors
+/// `AllocError` where memory ran out.
+pub fn push_numbers(text: &mut String, numbers: &[u32]) -> Result<(), AllocError>
     ensures { OnOk result (string_bytes text.new
         ≡ string_bytes text.old ++ numbers_text numbers.now) }
 {
@@ -93,14 +96,37 @@ fn push_pair(text: &mut String, four: &Option<Four>) -> Result<(), AllocError>
     }
 }
 
+/// Puts the line `order` of these records behind a text.
+///
+/// # Errors
+/// `AllocError` where memory ran out.
+#[tactic(auto, using(crate::proofs::WrittenLines::line_alone))]
+pub fn push_order(text: &mut String, order: &[u32]) -> Result<(), AllocError>
+    ensures { OnOk result (string_bytes text.new
+        ≡ string_bytes text.old ++ lines_text (CertLine.Order order.now ∷ [])) }
+{
+    push_line(text, "order", order)
+}
+
+/// Puts the lines of a refutation behind a text: `stuck`, and a line `try` for each try.
+///
+/// # Errors
+/// `AllocError` where memory ran out.
+pub fn push_refutation(text: &mut String, refutation: &Refutation) -> Result<(), AllocError>
+    ensures { OnOk result (string_bytes text.new
+        ≡ string_bytes text.old ++ lines_text (refutation_lines refutation.now)) }
+{
+    push_line(text, "stuck", refutation.stuck.as_slice())?;
+    push_tries(text, refutation.tries.as_slice())
+}
+
 // Puts the lines that say that a key is 2-atomic behind a text.
 fn push_yes(text: &mut String, order: &[u32]) -> Result<(), AllocError>
     ensures { OnOk result (string_bytes text.new
         ≡ string_bytes text.old ++ lines_text (two_lines (TwoPart.Yes order.now))) }
 {
     text.push_str("two yes\n")?;
-    push_line(text, "order", order)?;
-    Ok(())
+    push_order(text, order)
 }
 
 // Puts the lines that say that it is not behind a text.
@@ -109,9 +135,7 @@ fn push_no(text: &mut String, refutation: &Refutation) -> Result<(), AllocError>
         ≡ string_bytes text.old ++ lines_text (two_lines (TwoPart.No refutation.now))) }
 {
     text.push_str("two no\n")?;
-    push_line(text, "stuck", refutation.stuck.as_slice())?;
-    push_tries(text, refutation.tries.as_slice())?;
-    Ok(())
+    push_refutation(text, refutation)
 }
 
 // Puts the lines that say whether a key is 2-atomic behind a text.

@@ -13,9 +13,9 @@ mod text;
 
 use crate::last_line::total_line;
 use crate::lines::key_lines;
-use crate::text::{bytes_of, escaped_name};
 use stale_model::{Bytes, History, Memory, Verdict};
 use std::alloc::{AllocError, Global};
+pub use text::{bytes_of, escaped_name, push_count};
 
 /// A name as it is printed: visible ASCII characters other than the backslash stand for themselves,
 /// and every other byte is `\x` and two hexadecimal digits in lower case.

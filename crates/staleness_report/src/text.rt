@@ -7,8 +7,11 @@ ghost use Rattle.staleness_report.specs.Escaped.{hex_digit, escaped_byte, escape
 use stale_model::{Bytes, Memory};
 use std::alloc::{AllocError, Global};
 
-/// The bytes of a text that was made, or want of memory where making it found none.
-pub(crate) fn bytes_of(text: Result<String, AllocError>) -> Result<Bytes, Memory>
+/// The bytes of a text that was made.
+///
+/// # Errors
+/// `Memory` where making the text found none.
+pub fn bytes_of(text: Result<String, AllocError>) -> Result<Bytes, Memory>
     ensures { MatchResult text (λ text. result ≡ Ok (string_bytes text)) (λ _. IsErr result) }
 {
     match text {
@@ -41,8 +44,11 @@ fn push_escaped(text: &mut String, byte: u8) -> Result<(), AllocError>
     text.push(hex_digit(byte % 16))
 }
 
-/// A name as it is printed.
-pub(crate) fn escaped_name(alloc: Global, name: &[u8]) -> Result<String, AllocError>
+/// A name as it is printed: as [`escape`](crate::escape) has it, as a text.
+///
+/// # Errors
+/// `AllocError` where memory ran out.
+pub fn escaped_name(alloc: Global, name: &[u8]) -> Result<String, AllocError>
     ensures { IfOk result (λ text. string_bytes text ≡ escaped name.now) }
 {
     let mut text = String::new(alloc);
@@ -53,7 +59,10 @@ pub(crate) fn escaped_name(alloc: Global, name: &[u8]) -> Result<String, AllocEr
 }
 
 /// Puts a label and a number behind a text.
-pub(crate) fn push_count(text: &mut String, label: &str, count: u64) -> Result<(), AllocError>
+///
+/// # Errors
+/// `AllocError` where memory ran out.
+pub fn push_count(text: &mut String, label: &str, count: u64) -> Result<(), AllocError>
     ensures { OnOk result
         (string_bytes text.new ≡ string_bytes text.old ++ label.now ++ decimal count) }
 {

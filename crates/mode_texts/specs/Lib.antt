@@ -1,0 +1,5 @@
+pub mod Totals
+pub mod Measures
+pub mod TwoTexts
+pub mod SidesTexts
+pub mod Counting

@@ -1,0 +1,13 @@
+//! What `two` and `sides` write of a history: lines for each key, and a last line of totals.
+#![tactic(auto)]
+
+mod keys;
+mod sides;
+mod totals;
+mod two;
+
+pub use sides::{SidesVerdict, sides_text};
+pub use two::{LeastDelta, TwoVerdict, two_text};
+
+#[cfg(test)]
+mod tests;
