@@ -4,12 +4,11 @@ use Rattle.std.specs.Prelude.{nat_lt, IfSome, IsSomeAnd, ◌⊎◌}
 use Rattle.stale_model.specs.declared.History.{History}
 use Rattle.stale_model.specs.declared.Verdict.{Verdict}
 use Rattle.history_csv.specs.Reading as history
-use Rattle.cert_text.specs.Certificates.{cert_text}
 use Rattle.cert_text.specs.Reading as certificate
 use Rattle.audit_ports.specs.Shelf.{Shown, Files, Rose, file_at}
 use Rattle.audit_ports.specs.Sink.{SinkShown}
 use Rattle.audit_words.specs.declared.Task.{Task}
-use Rattle.audit_words.specs.declared.Task.TheVariants.{Audit, Check, Gen, Trial}
+use Rattle.audit_words.specs.declared.Task.TheVariants.{Judge, Check, Gen, Trial}
 use Rattle.audit_words.specs.Tasks.{task_of}
 use Rattle.audit_commands.specs.declared.refusal.Refusal.{Refusal}
 use Rattle.audit_commands.specs.declared.refusal.Refusal.TheVariants as refusal
@@ -17,7 +16,7 @@ use Rattle.audit_commands.specs.declared.status.Status.{Status}
 use Rattle.audit_commands.specs.declared.status.Status.TheVariants as status
 use Rattle.audit_commands.specs.Status.{number}
 use Rattle.audit_commands.specs.Input.{TakesInput, IsTooLong}
-use Rattle.audit_commands.specs.Audit.{history_limit, cert_limit, TakesHistory, TakesCert, TakesBoth, Input, IsInput, history_file}
+use Rattle.audit_commands.specs.Audit.{history_limit, cert_limit, TakesHistory, TakesCert, TakesBoth, Input, IsInput, cert_file, history_file}
 use Rattle.audit_commands.specs.Output.{WritesNamedPart}
 use Rattle.audit_commands.specs.Ends.{outside, IsUnwritten}
 use Rattle.audit_commands.specs.Steps.{Performs}
@@ -69,7 +68,7 @@ verdicts_told f cert keys m n verdicts is taken =
 
 -- a history that asks for a status
 asks_by_history : (f : Files) (task : Task) (asked : Status) (name : List ℕ) → history_file task ≡ Some name → history_in f name ≡ Err asked → Asks f task asked
-asks_by_history f (Audit file cert workers) asked name is says = let same : file ≡ name = cc in rw (same, says) refl
+asks_by_history f (Judge file measure) asked name is says = let same : file ≡ name = cc in rw (same, says) refl
 asks_by_history f (Check file cert) asked name is says = let same : file ≡ name = cc in rw (same, says) refl
 asks_by_history f (Gen workload) asked name is says = cc
 asks_by_history f (Trial workload workers) asked name is says = cc
@@ -124,8 +123,8 @@ module _ (words : List (List ℕ)) (task : Task) (named : task_of words ≡ Some
   no_write_failed (Some name) text taken counts w none = none (subst (λ c. Rose c n.write_faults) counts w.fails.write_faults)
 
   unwritten_fails : (t : Task) → IsUnwritten t s n o o' → NothingFailed (outside s o e) (outside n o' e') → ⊥
-  unwritten_fails (Audit file cert workers) u fine = elim u.fails [
-    | inl w ↦ no_write_failed cert (cert_text u.verdicts) u.taken u.audit.input.input.counts.write_faults w.0 fine.writes
+  unwritten_fails (Judge file measure) u fine = elim u.fails [
+    | inl w ↦ no_write_failed (cert_file measure) u.texts.cert u.taken u.judged.input.input.counts.write_faults w.0 fine.writes
     | inr w ↦ fine.out w.1.faults
   ]
   unwritten_fails (Check file cert) u fine = fine.out u.line.faults
@@ -163,14 +162,14 @@ module _ (words : List (List ℕ)) (task : Task) (named : task_of words ≡ Some
   refused_told f is refusal.Memory answer h says fine = inr (ap number says.status_is)
 
   performed_told : (f : Files) → s.files ≡ Some f → (t : Task) (answer : Status) → Performs t s n o o' answer → Asks f t answer
-  performed_told f is (Audit file cert workers) status.Done p =
-      let hist : history_in f file ≡ Ok p.h = history_told f file s p.taken p.h is p.audit.input in
+  performed_told f is (Judge file measure) status.Done p =
+      let hist : history_in f file ≡ Ok p.judged.h = history_told f file s p.taken p.judged.h is p.judged.input in
       rw hist refl
   performed_told f is (Check file cert) status.Done p = asks_by_verdicts f file cert s n p.h p.verdicts status.Done is p.inputs (inl (refl, p.shown))
   performed_told f is (Check file cert) status.NotShown p = asks_by_verdicts f file cert s n p.h p.verdicts status.NotShown is p.inputs (inr (refl, p.not_shown))
   performed_told f is (Gen workload) status.Done p = refl
   performed_told f is (Trial workload workers) status.Done p = refl
-  performed_told f is (Audit file cert workers) status.NotShown p = absurd p
+  performed_told f is (Judge file measure) status.NotShown p = absurd p
   performed_told f is (Gen workload) status.NotShown p = absurd p
   performed_told f is (Trial workload workers) status.NotShown p = absurd p
   performed_told f is t status.WordsRefused p = absurd p
@@ -184,7 +183,7 @@ module _ (words : List (List ℕ)) (task : Task) (named : task_of words ≡ Some
 
   -- of a task with no history, a write that failed is one of the output
   unwritten_rose : (t : Task) → history_file t ≡ None → IsUnwritten t s n o o' → Rose o.faults o'.faults
-  unwritten_rose (Audit file cert workers) none u = cc
+  unwritten_rose (Judge file measure) none u = cc
   unwritten_rose (Check file cert) none u = cc
   unwritten_rose (Gen workload) none u = u.text.faults
   unwritten_rose (Trial workload workers) none u = u.line.faults
@@ -192,7 +191,7 @@ module _ (words : List (List ℕ)) (task : Task) (named : task_of words ≡ Some
   -- a task with no history is done where it is performed
   performed_untold : (t : Task) → history_file t ≡ None → (answer : Status) → Performs t s n o o' answer → answer ≡ status.Done
   performed_untold t none status.Done p = refl
-  performed_untold (Audit file cert workers) none status.NotShown p = absurd p
+  performed_untold (Judge file measure) none status.NotShown p = absurd p
   performed_untold (Check file cert) none status.NotShown p = cc
   performed_untold (Gen workload) none status.NotShown p = absurd p
   performed_untold (Trial workload workers) none status.NotShown p = absurd p

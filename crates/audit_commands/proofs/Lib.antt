@@ -1,7 +1,7 @@
 pub mod Taking
 pub mod Keeping
 pub mod Refusing
-pub mod Auditing
+pub mod Judging
 pub mod Checking
 pub mod Ending
 pub mod Generating

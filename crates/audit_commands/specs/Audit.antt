@@ -1,5 +1,5 @@
--- What the inputs of a command are, and what an audit of a history says.
-use Rattle.std.specs.Prelude.{◌≡◌, ◌⊎◌, ℕ, List, length, Option, Some, None, Ok, Err}
+-- What the inputs of a command are, and what is written of a history.
+use Rattle.std.specs.Prelude.{◌≡◌, ◌⊎◌, ℕ, List, length, Option, Some, None, IfSome, Ok, Err}
 use Rattle.stale_model.specs.declared.History.{History}
 use Rattle.stale_model.specs.declared.Verdict.{Verdict}
 use Rattle.stale_model.specs.PrintedVerdicts.{ArePrintedVerdicts}
@@ -10,8 +10,15 @@ use Rattle.history_csv.specs.declared.HistoryFault.{HistoryFault}
 use Rattle.history_csv.specs.Reading as history
 use Rattle.cert_text.specs.declared.CertFault.{CertFault}
 use Rattle.cert_text.specs.Reading as certificate
+use Rattle.cert_text.specs.Certificates.{cert_text}
+use Rattle.staleness_report.specs.Report.{report_text}
+use Rattle.mode_texts.specs.TwoTexts.{IsTwoText}
+use Rattle.mode_texts.specs.SidesTexts.{IsSidesText}
 use Rattle.audit_words.specs.declared.Task.{Task}
-use Rattle.audit_words.specs.declared.Task.TheVariants.{Audit, Check, Gen, Trial}
+use Rattle.audit_words.specs.declared.Task.TheVariants.{Judge, Check, Gen, Trial}
+use Rattle.audit_words.specs.declared.Measure.{Measure}
+use Rattle.audit_words.specs.declared.Measure.TheVariants.{Audit, Two, Sides}
+use Rattle.audit_commands.specs.declared.texts.Texts.{Texts}
 use Rattle.audit_commands.specs.Input.{TakesInput}
 
 -- the greatest length of a history file, in bytes
@@ -58,16 +65,35 @@ pub record AreVerdicts (h : History) (verdicts : List Verdict) : Type 0 where
   pub shown : EachKeyHas IsShown h.keys verdicts
   pub printed : ArePrintedVerdicts h.keys verdicts
 
+-- the texts of an audit: the report, and the certificate of the same verdicts, where a file is named for it
+pub record AreAuditTexts (cert : Option (List ℕ)) (h : History) (texts : Texts) : Type 0 where
+  pub verdicts : List Verdict
+  pub are_verdicts : AreVerdicts h verdicts
+  pub certificate : IfSome cert (λ name. texts.cert ≡ cert_text verdicts)
+  pub report : texts.output ≡ report_text h verdicts
+
+-- what is written of a history by a measure, and all that it says is true; a measure other than an audit has no certificate
+abbrev pub AreTextsOf : Measure → History → Texts → Type 0
+AreTextsOf (Audit cert workers) h texts = AreAuditTexts cert h texts
+AreTextsOf Two h texts = IsTwoText h texts.output
+AreTextsOf Sides h texts = IsSidesText h texts.output
+
+-- the file for the certificate of a measure, if one is named
+abbrev pub cert_file : Measure → Option (List ℕ)
+cert_file (Audit cert workers) = cert
+cert_file Two = None
+cert_file Sides = None
+
 -- the file with the history of a task, if it has one
 abbrev pub history_file : Task → Option (List ℕ)
-history_file (Audit file cert workers) = Some file
+history_file (Judge file measure) = Some file
 history_file (Check file cert) = Some file
 history_file (Gen workload) = None
 history_file (Trial workload workers) = None
 
 -- the file that a task writes, if it writes one
 abbrev pub output_file : Task → Option (List ℕ)
-output_file (Audit file cert workers) = cert
+output_file (Judge file measure) = cert_file measure
 output_file (Check file cert) = None
 output_file (Gen workload) = None
 output_file (Trial workload workers) = None

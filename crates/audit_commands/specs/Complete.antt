@@ -11,7 +11,7 @@ use Rattle.cert_text.specs.declared.CertFault.{CertFault}
 use Rattle.cert_text.specs.Reading as certificate
 use Rattle.audit_ports.specs.Shelf.{Files, Rose, file_at}
 use Rattle.audit_words.specs.declared.Task.{Task}
-use Rattle.audit_words.specs.declared.Task.TheVariants.{Audit, Check, Gen, Trial}
+use Rattle.audit_words.specs.declared.Task.TheVariants.{Judge, Check, Gen, Trial}
 use Rattle.audit_words.specs.Tasks.{task_of}
 use Rattle.audit_commands.specs.declared.status.Status.{Status}
 use Rattle.audit_commands.specs.declared.status.Status.TheVariants as status
@@ -61,10 +61,10 @@ abbrev pub CheckAsks : Result History Status → Option (List ℕ) → Status �
 CheckAsks (Err s) content asked = asked ≡ s
 CheckAsks (Ok h) content asked = VerdictsAsk h.keys (verdicts_in_bytes (length h.keys) (input_in cert_limit content)) asked
 
--- what the history of an audit asks for
-abbrev pub AuditAsks : Result History Status → Status → Type 0
-AuditAsks (Err s) asked = asked ≡ s
-AuditAsks (Ok h) asked = asked ≡ status.Done
+-- what a history asks for that is judged, whatever the measure
+abbrev pub JudgeAsks : Result History Status → Status → Type 0
+JudgeAsks (Err s) asked = asked ≡ s
+JudgeAsks (Ok h) asked = asked ≡ status.Done
 
 -- the history in the file of this name, or the status that the file asks for
 abbrev pub history_in : Files → List ℕ → Result History Status
@@ -72,7 +72,7 @@ history_in files name = history_in_bytes (input_in history_limit (file_at files 
 
 -- the status that a task asks for over these files
 abbrev pub Asks : Files → Task → Status → Type 0
-Asks files (Audit file cert workers) asked = AuditAsks (history_in files file) asked
+Asks files (Judge file measure) asked = JudgeAsks (history_in files file) asked
 Asks files (Check file cert) asked = CheckAsks (history_in files file) (file_at files cert) asked
 Asks files (Gen workload) asked = asked ≡ status.Done
 Asks files (Trial workload workers) asked = asked ≡ status.Done

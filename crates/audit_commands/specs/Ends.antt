@@ -6,23 +6,23 @@ use Rattle.stale_model.specs.Truth.{EachKeyHas, IsTrueOf}
 use Rattle.stale_model.specs.Shown.{IsShown}
 use Rattle.history_csv.specs.declared.HistoryFault.{HistoryFault}
 use Rattle.cert_text.specs.declared.CertFault.{CertFault}
-use Rattle.cert_text.specs.Certificates.{cert_text}
 use Rattle.cert_checker.specs.declared.Checked.{Checked}
 use Rattle.cert_checker.specs.declared.Checked.TheVariants as checked
 use Rattle.cert_checker.specs.KeyFaults.{IsFirstBad, FindsAll}
-use Rattle.staleness_report.specs.Report.{report_text}
 use Rattle.audit_ports.specs.Shelf.{Shown, Files, KeepsCounts, Misses, FailsReading, WhereTold, file_at}
 use Rattle.audit_ports.specs.Sink.{SinkShown}
 use Rattle.audit_words.specs.declared.Task.{Task}
-use Rattle.audit_words.specs.declared.Task.TheVariants.{Audit, Check, Gen, Trial}
+use Rattle.audit_words.specs.declared.Task.TheVariants.{Judge, Check, Gen, Trial}
+use Rattle.audit_words.specs.declared.Measure.{Measure}
 use Rattle.audit_words.specs.Tasks.{task_of}
 use Rattle.audit_commands.specs.declared.status.Status.{Status}
 use Rattle.audit_commands.specs.declared.status.Status.TheVariants as status
 use Rattle.audit_commands.specs.Status.{number}
+use Rattle.audit_commands.specs.declared.texts.Texts.{Texts}
 use Rattle.audit_commands.specs.Input.{IsTooLong}
 use Rattle.command_outputs.specs.Output.{WritesWhole, WritesPart}
 use Rattle.audit_commands.specs.Output.{WritesNamed, WritesNamedPart}
-use Rattle.audit_commands.specs.Audit.{TakesHistory, IsFaultOf, IsCertFaultOf, TakesBoth, AreVerdicts, Input, IsInput, history_file, output_file}
+use Rattle.audit_commands.specs.Audit.{TakesHistory, IsFaultOf, IsCertFaultOf, TakesBoth, AreTextsOf, Input, IsInput, cert_file, history_file, output_file}
 use Rattle.audit_commands.specs.Generated.{GenDone, TrialDone, GenUnwritten, TrialUnwritten}
 use Rattle.command_outputs.specs.Lines.{SaysLine, write_failed_line, memory_line}
 use Rattle.audit_commands.specs.Lines.{check_line, words_line, fault_line, cert_fault_line, missing_line, too_long_line, read_failed_line}
@@ -74,19 +74,19 @@ pub record Refuses (line : List ℕ) (old new : Outside) : Type 0 where
   pub out : new.out ≡ old.out
   pub says : SaysLine line old.err new.err
 
--- the audit of this file: the verdicts of the history in it
-pub record IsAudit (file : List ℕ) (old new : Shown) (h : History) (verdicts : List Verdict) : Type 0 where
-  pub input : TakesHistory file old new h
-  pub are_verdicts : AreVerdicts h verdicts
-
--- an audit was done: the certificate was written where it is named, then the output gained the report of the same verdicts
-pub record AuditDone (file : List ℕ) (cert : Option (List ℕ)) (old new : Shown) (out out' : SinkShown) : Type 0 where
-  pub taken : Shown
+-- the history in this file was taken, and these texts are what is written of it by this measure
+pub record IsJudged (file : List ℕ) (measure : Measure) (old new : Shown) (texts : Texts) : Type 0 where
   pub h : History
-  pub verdicts : List Verdict
-  pub audit : IsAudit file old taken h verdicts
-  pub certificate : WritesNamed cert (cert_text verdicts) taken new
-  pub report : WritesWhole (report_text h verdicts) out out'
+  pub input : TakesHistory file old new h
+  pub are_texts : AreTextsOf measure h texts
+
+-- a history was judged: the certificate was written where the measure names a file for it, then the output gained the text of the measure
+pub record JudgeDone (file : List ℕ) (measure : Measure) (old new : Shown) (out out' : SinkShown) : Type 0 where
+  pub taken : Shown
+  pub texts : Texts
+  pub judged : IsJudged file measure old taken texts
+  pub certificate : WritesNamed (cert_file measure) texts.cert taken new
+  pub output : WritesWhole texts.output out out'
 
 -- a check was done: the certificate shows each verdict that it says, so they are true, and the output gained `good`
 pub record CheckDone (file cert : List ℕ) (old new : Shown) (out out' : SinkShown) : Type 0 where
@@ -99,7 +99,7 @@ pub record CheckDone (file cert : List ℕ) (old new : Shown) (out out' : SinkSh
 
 -- what a task asks for was done
 abbrev pub IsDone : Task → Shown → Shown → SinkShown → SinkShown → Type 0
-IsDone (Audit file cert workers) old new out out' = AuditDone file cert old new out out'
+IsDone (Judge file measure) old new out out' = JudgeDone file measure old new out out'
 IsDone (Check file cert) old new out out' = CheckDone file cert old new out out'
 IsDone (Gen workload) old new out out' = GenDone workload old new out out'
 IsDone (Trial workload workers) old new out out' = TrialDone workload old new out out'
@@ -175,14 +175,13 @@ pub record EndsReadFailed (words : List (List ℕ)) (old new : Outside) : Type 0
   pub fails : FailsReading old.shelf new.shelf
   pub refuses : Refuses read_failed_line old new
 
--- a call of writing the named certificate failed, and then no other output was begun; or one of writing the report
-pub record AuditUnwritten (file : List ℕ) (cert : Option (List ℕ)) (old new : Shown) (out out' : SinkShown) : Type 0 where
+-- a call of writing the named certificate failed, and then no other output was begun; or one of writing the text of the measure
+pub record JudgeUnwritten (file : List ℕ) (measure : Measure) (old new : Shown) (out out' : SinkShown) : Type 0 where
   pub taken : Shown
-  pub h : History
-  pub verdicts : List Verdict
-  pub audit : IsAudit file old taken h verdicts
-  pub fails : (WritesNamedPart cert (cert_text verdicts) taken new × (out' ≡ out))
-      ⊎ (WritesNamed cert (cert_text verdicts) taken new × WritesPart (report_text h verdicts) out out')
+  pub texts : Texts
+  pub judged : IsJudged file measure old taken texts
+  pub fails : (WritesNamedPart (cert_file measure) texts.cert taken new × (out' ≡ out))
+      ⊎ (WritesNamed (cert_file measure) texts.cert taken new × WritesPart texts.output out out')
 
 -- a call of writing the line of a check failed
 pub record CheckUnwritten (file cert : List ℕ) (old new : Shown) (out out' : SinkShown) : Type 0 where
@@ -195,7 +194,7 @@ pub record CheckUnwritten (file cert : List ℕ) (old new : Shown) (out out' : S
 
 -- what a task asks for was made, and not, or not wholly, written
 abbrev pub IsUnwritten : Task → Shown → Shown → SinkShown → SinkShown → Type 0
-IsUnwritten (Audit file cert workers) old new out out' = AuditUnwritten file cert old new out out'
+IsUnwritten (Judge file measure) old new out out' = JudgeUnwritten file measure old new out out'
 IsUnwritten (Check file cert) old new out out' = CheckUnwritten file cert old new out out'
 IsUnwritten (Gen workload) old new out out' = GenUnwritten workload old new out out'
 IsUnwritten (Trial workload workers) old new out out' = TrialUnwritten workload old new out out'

@@ -7,8 +7,7 @@ use Rattle.history_csv.specs.declared.HistoryFault.{HistoryFault}
 use Rattle.history_csv.specs.declared.HistoryFault.TheVariants as history_fault
 use Rattle.cert_text.specs.declared.CertFault.{CertFault}
 use Rattle.cert_text.specs.declared.CertFault.TheVariants as cert_fault
-use Rattle.cert_text.specs.Certificates.{cert_text}
-use Rattle.staleness_report.specs.Report.{report_text}
+use Rattle.audit_ports.specs.declared.Failed.{Failed}
 use Rattle.audit_ports.specs.Shelf.{Shown, KeepsCounts, Misses, FailsReading}
 use Rattle.audit_ports.specs.Sink.{SinkShown}
 use Rattle.audit_words.specs.declared.Task.{Task}
@@ -17,6 +16,7 @@ use Rattle.audit_commands.specs.declared.status.Status.{Status}
 use Rattle.audit_commands.specs.declared.status.Status.TheVariants as status
 use Rattle.audit_commands.specs.declared.refusal.Refusal.{Refusal}
 use Rattle.audit_commands.specs.declared.refusal.Refusal.TheVariants as refusal
+use Rattle.audit_commands.specs.declared.texts.Texts.{Texts}
 use Rattle.audit_commands.specs.Input.{IsTooLong}
 use Rattle.command_outputs.specs.Output.{WritesWhole, WritesPart}
 use Rattle.audit_commands.specs.Output.{WritesNamed, WritesNamedPart}
@@ -144,22 +144,16 @@ pub record TaskEnds (task : Task) (old new : Shown) (out out' : SinkShown) (resu
   pub done : IfOk result (Performs task old new out out')
   pub refused : IfErr result (IsRefused task old new out out')
 
--- how the certificate was written, where it is named
-abbrev pub Certifies : Option (List ℕ) → List Verdict → Shown → Shown → Result Unit Refusal → Type 0
-Certifies cert verdicts old new (Ok v) = WritesNamed cert (cert_text verdicts) old new
-Certifies cert verdicts old new (Err refusal.WriteFailed) = WritesNamedPart cert (cert_text verdicts) old new
-Certifies cert verdicts old new (Err refusal.Memory) = new ≡ old
-Certifies cert verdicts old new (Err _) = ⊥
+-- how the certificate was written, where a file is named for it
+abbrev pub Certifies : Option (List ℕ) → List ℕ → Shown → Shown → Result Unit Failed → Type 0
+Certifies cert text old new (Ok v) = WritesNamed cert text old new
+Certifies cert text old new (Err failed) = WritesNamedPart cert text old new
 
--- how the outputs of an audit were written
-abbrev pub WritesAudit : Option (List ℕ) → History → List Verdict → Shown → Shown → SinkShown → SinkShown → Result Unit Refusal → Type 0
-WritesAudit cert h verdicts old new out out' (Ok v) =
-    WritesNamed cert (cert_text verdicts) old new × WritesWhole (report_text h verdicts) out out'
-WritesAudit cert h verdicts old new out out' (Err refusal.WriteFailed) =
-    (WritesNamedPart cert (cert_text verdicts) old new × (out' ≡ out))
-    ⊎ (WritesNamed cert (cert_text verdicts) old new × WritesPart (report_text h verdicts) out out')
-WritesAudit cert h verdicts old new out out' (Err refusal.Memory) = (new ≡ old) × (out' ≡ out)
-WritesAudit cert h verdicts old new out out' (Err _) = ⊥
+-- how the texts of a history were written
+abbrev pub WritesTexts : Option (List ℕ) → Texts → Shown → Shown → SinkShown → SinkShown → Result Unit Failed → Type 0
+WritesTexts cert texts old new out out' (Ok v) = WritesNamed cert texts.cert old new × WritesWhole texts.output out out'
+WritesTexts cert texts old new out out' (Err failed) =
+    (WritesNamedPart cert texts.cert old new × (out' ≡ out)) ⊎ (WritesNamed cert texts.cert old new × WritesPart texts.output out out')
 
 -- a call answered with this status, after this line
 pub record Says (status : Status) (line : List ℕ) (result : Status) (old new : SinkShown) : Type 0 where

@@ -11,7 +11,7 @@ use Rattle.cert_checker.specs.declared.Checked.{Checked}
 use Rattle.cert_checker.specs.declared.Checked.TheVariants as checked
 use Rattle.cert_checker.specs.KeyFaults.{FindsAll}
 use Rattle.audit_words.specs.declared.Task.{Task}
-use Rattle.audit_words.specs.declared.Task.TheVariants.{Audit, Check, Gen, Trial}
+use Rattle.audit_words.specs.declared.Task.TheVariants.{Judge, Check, Gen, Trial}
 use Rattle.audit_commands.specs.declared.input.TakeFault.{TakeFault}
 use Rattle.audit_commands.specs.declared.input.TakeFault.TheVariants as taking
 use Rattle.audit_commands.specs.declared.status.Status.{Status}
@@ -53,7 +53,7 @@ status_of_check (checked.Bad key rule rec) = status.NotShown
 
 -- the check of a task found a verdict that isn't shown
 abbrev pub FindsNotShown : Task → Shown → Shown → SinkShown → SinkShown → Type 0
-FindsNotShown (Audit file cert workers) old new out out' = ⊥
+FindsNotShown (Judge file measure) old new out out' = ⊥
 FindsNotShown (Check file cert) old new out out' = CheckFails file cert old new out out'
 FindsNotShown (Gen workload) old new out out' = ⊥
 FindsNotShown (Trial workload workers) old new out out' = ⊥

@@ -10,19 +10,20 @@ ghost use Rattle.audit_commands.specs.Ends.{outside, KeepsOutside, EndsAs};
 ghost use Rattle.audit_commands.specs.Complete.{IsComplete};
 ghost use Rattle.audit_commands.specs.Refusals.{TaskEnds};
 
-mod audit;
 mod certificate;
 mod check;
 mod generated;
 mod history;
 mod input;
+mod judge;
 mod laws;
 mod refusal;
 mod status;
+mod texts;
 
-use crate::audit::audit;
 use crate::check::check;
 use crate::generated::{generate, trial};
+use crate::judge::judge;
 use crate::refusal::{Refusal, end, end_without_memory, refuse};
 use audit_ports::{Gate, Shelf, Sink};
 use audit_words::{Task, Word, task_of};
@@ -47,11 +48,7 @@ fn perform<R: Threads + Sync, S: Shelf, O: Sink, G: Gate>(
         (O.shown out.old) (O.shown out.new) result }
 {
     match task {
-        Task::Audit {
-            file,
-            cert,
-            workers,
-        } => audit(rt, alloc, file, cert, *workers, shelf, out, gate),
+        Task::Judge { file, measure } => judge(rt, alloc, file, measure, shelf, out, gate),
         Task::Check { file, cert } => check(alloc, file, cert, shelf, out),
         Task::Gen(workload) => generate(alloc, *workload, out),
         Task::Trial { workload, workers } => trial(rt, alloc, *workload, *workers, out, gate),
@@ -62,6 +59,9 @@ fn perform<R: Threads + Sync, S: Shelf, O: Sink, G: Gate>(
 ///
 /// - `audit FILE [--cert OUT] [--workers N]`: the history in FILE is judged by N workers (1 to 64, 1 where it is not
 ///   said), the certificate is written to OUT, and then the report to `out`.
+/// - `two FILE`: the least Δ for 2-atomicity of each key of the history in FILE is written to `out`, with what shows it.
+/// - `sides FILE`: the least number of ticks by which both ends of the operations have to be moved is written to `out`
+///   for each key of the history in FILE, with what shows it.
 /// - `check FILE CERT`: the certificate in CERT is checked against the history in FILE, and `good` or the first key that
 ///   isn't is written to `out`.
 /// - `gen SEED OPS KEYS`: the generated history of OPS operations on KEYS keys is written to `out`. It is the same for
@@ -70,8 +70,8 @@ fn perform<R: Threads + Sync, S: Shelf, O: Sink, G: Gate>(
 ///   `out`.
 ///
 /// Files are read from `shelf`, at most 67,108,864 bytes of a history and 268,435,456 of a certificate. It must not be
-/// writing a file. All text is made before the first output: OUT, what it held is lost, and then `out`. The gate is
-/// passed round each judgement. After a refusal one line is written to `err`, which says why.
+/// writing a file. All text is made before the first output: OUT, what it held is lost, and then `out`. In
+/// `audit` and `trial` the gate is passed round each judgement. After a refusal one line is written to `err`, which says why.
 ///
 /// # Statuses
 /// - 0: done. What was asked for was written and handed on, and nothing else.

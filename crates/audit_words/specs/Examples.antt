@@ -4,6 +4,8 @@ use Rattle.std.specs.List.{slice_split}
 use Rattle.clap.specs.Words.{Text}
 use Rattle.stale_model.specs.declared.store.Settings.{Settings}
 use Rattle.audit_words.specs.declared.Task.{Task}
+use Rattle.audit_words.specs.declared.Task.TheVariants.{Judge}
+use Rattle.audit_words.specs.declared.Measure.TheVariants.{Audit}
 use Rattle.audit_words.specs.declared.Workload.{Workload}
 use Rattle.audit_words.specs.declared.bench.Bench.{Bench}
 use Rattle.audit_words.specs.Benches.{bench_of}
@@ -12,6 +14,10 @@ use Rattle.audit_words.specs.Tasks.{task_of}
 -- what the words between the blanks of a line ask for
 abbrev pub asked_by : Text → Option Task
 asked_by line = task_of (slice_split (λ byte. byte == 32) line)
+
+-- the audit of this file by so many workers, with the file for the certificate where it is given
+abbrev pub audit : Text → Option Text → ℕ → Task
+audit file cert workers = Judge file (Audit cert workers)
 
 -- the settings with this seed and these numbers of operations and keys
 abbrev pub workload : ℕ → ℕ → ℕ → Workload

@@ -2,7 +2,9 @@
 use Rattle.std.specs.Prelude.{ℕ, ◌≤◌, ◌≢◌, ⊤}
 use Rattle.stale_model.specs.Settings.{AreSettings}
 use Rattle.audit_words.specs.declared.Task.{Task}
-use Rattle.audit_words.specs.declared.Task.TheVariants.{Audit, Check, Gen, Trial}
+use Rattle.audit_words.specs.declared.Task.TheVariants.{Judge, Check, Gen, Trial}
+use Rattle.audit_words.specs.declared.Measure.{Measure}
+use Rattle.audit_words.specs.declared.Measure.TheVariants.{Audit, Two, Sides}
 use Rattle.audit_words.specs.declared.Workload.{Workload}
 use Rattle.audit_words.specs.declared.bench.Bench.{Bench}
 
@@ -18,9 +20,15 @@ pub record AreWorkers (workers : ℕ) : Type 0 where
   pub some : 1 ≤ workers
   pub few : workers ≤ 64
 
+-- the numbers of a measure are within their limits
+abbrev pub IsMeasure : Measure → Type 0
+IsMeasure (Audit cert workers) = AreWorkers workers
+IsMeasure Two = ⊤
+IsMeasure Sides = ⊤
+
 -- the numbers of a task are within their limits
 abbrev pub IsWithin : Task → Type 0
-IsWithin (Audit file cert workers) = AreWorkers workers
+IsWithin (Judge file measure) = IsMeasure measure
 IsWithin (Check file cert) = ⊤
 IsWithin (Gen workload) = IsWorkload workload
 IsWithin (Trial workload workers) = IsWorkload workload × AreWorkers workers

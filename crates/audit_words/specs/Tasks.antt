@@ -3,7 +3,9 @@ use Rattle.std.specs.Prelude.{ℕ, ◌&&◌, if◌then◌else◌, List, [], ◌�
 use Rattle.std.specs.Str.{bytes_eq}
 use Rattle.clap.specs.Words.{Row, Text, all_of, first_of}
 use Rattle.audit_words.specs.declared.Task.{Task}
-use Rattle.audit_words.specs.declared.Task.TheVariants.{Audit, Check, Gen, Trial}
+use Rattle.audit_words.specs.declared.Task.TheVariants.{Judge, Check, Gen, Trial}
+use Rattle.audit_words.specs.declared.Measure.{Measure}
+use Rattle.audit_words.specs.declared.Measure.TheVariants.{Audit, Two, Sides}
 use Rattle.audit_words.specs.declared.Workload.{Workload}
 use Rattle.audit_words.specs.Line.{entries_of, gives_only}
 use Rattle.audit_words.specs.Numbers.{number_within, workers_of}
@@ -11,14 +13,23 @@ use Rattle.audit_words.specs.Files.{is_name, are_two_names}
 
 -- one file, beside it the certificate's where it is given, and a number of workers
 abbrev pub audit_with : Option (List Text) → Option Text → Option ℕ → Option Task
-audit_with (Some (file ∷ [])) None (Some workers) = if is_name file then Some (Audit file None workers) else None
+audit_with (Some (file ∷ [])) None (Some workers) = if is_name file then Some (Judge file (Audit None workers)) else None
 audit_with (Some (file ∷ [])) (Some cert) (Some workers) =
-    if are_two_names file cert then Some (Audit file (Some cert) workers) else None
+    if are_two_names file cert then Some (Judge file (Audit (Some cert) workers)) else None
 audit_with _ _ _ = None
 
 -- `audit FILE [--cert OUT] [--workers N]`
 abbrev pub audit_of : List Row → Option Task
 audit_of rows = audit_with (all_of (codes "args") rows) (first_of (codes "cert") rows) (workers_of (first_of (codes "workers") rows))
+
+-- one file
+abbrev pub judge_with : Measure → Option (List Text) → Option Task
+judge_with measure (Some (file ∷ [])) = if is_name file then Some (Judge file measure) else None
+judge_with measure _ = None
+
+-- `two FILE` or `sides FILE`, by the measure
+abbrev pub judge_of : Measure → List Row → Option Task
+judge_of measure rows = judge_with measure (all_of (codes "args") rows)
 
 -- two files
 abbrev pub check_with : Option (List Text) → Option Task
@@ -62,6 +73,8 @@ abbrev pub task_by : Option Text → List Row → Option Task
 task_by None rows = None
 task_by (Some mode) rows =
     if bytes_eq mode (codes "audit") && gives_only (codes "cert" ∷ codes "workers" ∷ []) rows then audit_of rows
+    else if bytes_eq mode (codes "two") && gives_only [] rows then judge_of Two rows
+    else if bytes_eq mode (codes "sides") && gives_only [] rows then judge_of Sides rows
     else if bytes_eq mode (codes "check") && gives_only [] rows then check_of rows
     else if bytes_eq mode (codes "gen") && gives_only [] rows then gen_of rows
     else if bytes_eq mode (codes "trial") && gives_only (codes "workers" ∷ []) rows then trial_of rows

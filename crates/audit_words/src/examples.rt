@@ -1,34 +1,38 @@
 //! Command lines worked by hand, as theorems: what the words ask for. The words of a line stand between blanks.
 
 ghost use Rattle.std.specs.Prelude.{◌≡◌, ◌∷◌, [], Some, None, codes};
-ghost use Rattle.audit_words.specs.declared.Task.TheVariants.{Audit, Check, Gen, Trial};
+ghost use Rattle.audit_words.specs.declared.Task.TheVariants.{Judge, Check, Gen, Trial};
+ghost use Rattle.audit_words.specs.declared.Measure.TheVariants.{Two, Sides};
 ghost use Rattle.audit_words.specs.Benches.{bench_of};
 ghost use Rattle.audit_words.specs.Tasks.{task_of};
-ghost use Rattle.audit_words.specs.Examples.{asked_by, default_settings, run, run_asked_by, settings, workload};
+ghost use Rattle.audit_words.specs.Examples.{asked_by, audit, default_settings, run, run_asked_by, settings, workload};
 
 /// A file, and nothing else.
 pub fn modes_alone()
-    ensures audit { asked_by (codes "audit h") ≡ Some (Audit (codes "h") None 1) }
+    ensures audit { asked_by (codes "audit h") ≡ Some (audit (codes "h") None 1) }
+    ensures two { asked_by (codes "two h") ≡ Some (Judge (codes "h") Two) }
+    ensures sides { asked_by (codes "sides h") ≡ Some (Judge (codes "h") Sides) }
     ensures check { asked_by (codes "check h c") ≡ Some (Check (codes "h") (codes "c")) }
     ensures long_name { asked_by (codes "audit examples/session-store.csv")
-        ≡ Some (Audit (codes "examples/session-store.csv") None 1) }
+        ≡ Some (audit (codes "examples/session-store.csv") None 1) }
 {}
 
 /// Options stand before the mode, between the words and after them.
 pub fn options_anywhere()
     ensures after { asked_by (codes "audit h --cert c --workers 8")
-        ≡ Some (Audit (codes "h") (Some (codes "c")) 8) }
+        ≡ Some (audit (codes "h") (Some (codes "c")) 8) }
     ensures between { asked_by (codes "audit --workers 8 h --cert c")
-        ≡ Some (Audit (codes "h") (Some (codes "c")) 8) }
+        ≡ Some (audit (codes "h") (Some (codes "c")) 8) }
     ensures before { asked_by (codes "--cert c --workers=8 audit h")
-        ≡ Some (Audit (codes "h") (Some (codes "c")) 8) }
+        ≡ Some (audit (codes "h") (Some (codes "c")) 8) }
 {}
 
-/// A mode has to be there, and be one of the four.
+/// A mode has to be there, and be one of the six.
 pub fn wrong_modes()
     ensures no_word { task_of [] ≡ None }
     ensures empty { task_of ([] ∷ codes "h" ∷ []) ≡ None }
     ensures other { asked_by (codes "judge h") ≡ None }
+    ensures live { asked_by (codes "live h") ≡ None }
     ensures longer { asked_by (codes "audits h") ≡ None }
     ensures capital { asked_by (codes "Audit h") ≡ None }
     ensures file_first { asked_by (codes "h audit") ≡ None }
@@ -43,10 +47,13 @@ pub fn runs_and_other_modes()
     ensures no_mode { run_asked_by (codes "h j") ≡ None }
 {}
 
-/// `audit` has one file, and `check` has two.
+/// `audit`, `two` and `sides` have one file, and `check` has two.
 pub fn wrong_counts_of_files()
     ensures audit_none { asked_by (codes "audit") ≡ None }
     ensures audit_two { asked_by (codes "audit h g") ≡ None }
+    ensures measure_none { asked_by (codes "two") ≡ None }
+    ensures two_two { asked_by (codes "two h g") ≡ None }
+    ensures sides_two { asked_by (codes "sides h g") ≡ None }
     ensures check_one { asked_by (codes "check h") ≡ None }
     ensures check_three { asked_by (codes "check h c d") ≡ None }
 {}
@@ -84,6 +91,8 @@ pub fn wrong_generated_histories()
 /// No file's name is empty, and no two are the same.
 pub fn wrong_files()
     ensures audit_empty { task_of (codes "audit" ∷ [] ∷ []) ≡ None }
+    ensures two_empty { task_of (codes "two" ∷ [] ∷ []) ≡ None }
+    ensures sides_empty { task_of (codes "sides" ∷ [] ∷ []) ≡ None }
     ensures check_empty { task_of (codes "check" ∷ codes "h" ∷ [] ∷ []) ≡ None }
     ensures cert_empty { asked_by (codes "audit h --cert=") ≡ None }
     ensures cert_empty_word { task_of (codes "audit" ∷ codes "h" ∷ codes "--cert" ∷ [] ∷ [])
@@ -97,19 +106,19 @@ pub fn names_of_files()
     ensures same_by_another_path { asked_by (codes "check h ./h")
         ≡ Some (Check (codes "h") (codes "./h")) }
     ensures blank { task_of (codes "audit" ∷ codes "h 1" ∷ [])
-        ≡ Some (Audit (codes "h 1") None 1) }
-    ensures minus_sign { asked_by (codes "audit -") ≡ Some (Audit (codes "-") None 1) }
+        ≡ Some (audit (codes "h 1") None 1) }
+    ensures minus_sign { asked_by (codes "audit -") ≡ Some (audit (codes "-") None 1) }
     ensures no_ascii { task_of (codes "audit" ∷ (195 ∷ 169 ∷ []) ∷ [])
-        ≡ Some (Audit (195 ∷ 169 ∷ []) None 1) }
-    ensures mode_as_name { asked_by (codes "audit audit") ≡ Some (Audit (codes "audit") None 1) }
+        ≡ Some (audit (195 ∷ 169 ∷ []) None 1) }
+    ensures mode_as_name { asked_by (codes "audit audit") ≡ Some (audit (codes "audit") None 1) }
 {}
 
 /// A number of workers has 1 to 20 digits and is 1 to 64.
 pub fn numbers_of_workers()
-    ensures zeros { asked_by (codes "audit h --workers 007") ≡ Some (Audit (codes "h") None 7) }
-    ensures most { asked_by (codes "audit h --workers 64") ≡ Some (Audit (codes "h") None 64) }
+    ensures zeros { asked_by (codes "audit h --workers 007") ≡ Some (audit (codes "h") None 7) }
+    ensures most { asked_by (codes "audit h --workers 64") ≡ Some (audit (codes "h") None 64) }
     ensures most_digits { asked_by (codes "audit h --workers 00000000000000000064")
-        ≡ Some (Audit (codes "h") None 64) }
+        ≡ Some (audit (codes "h") None 64) }
 {}
 
 /// And no other texts are numbers of workers.
@@ -130,6 +139,8 @@ pub fn wrong_options()
     ensures workers_twice { asked_by (codes "audit h --workers 2 --workers 2") ≡ None }
     ensures check_workers { asked_by (codes "check h c --workers 2") ≡ None }
     ensures check_cert { asked_by (codes "check h c --cert d") ≡ None }
+    ensures two_workers { asked_by (codes "two h --workers 2") ≡ None }
+    ensures sides_cert { asked_by (codes "sides h --cert c") ≡ None }
     ensures audit_seed { asked_by (codes "audit h --seed 1") ≡ None }
     ensures unknown { asked_by (codes "audit h --colour 1") ≡ None }
     ensures shortened { asked_by (codes "audit h --work 2") ≡ None }
@@ -150,19 +161,19 @@ pub fn help()
 pub fn values_of_options()
     ensures minus_after_blank { asked_by (codes "audit h --cert -c") ≡ None }
     ensures minus_after_equals { asked_by (codes "audit h --cert=-c")
-        ≡ Some (Audit (codes "h") (Some (codes "-c")) 1) }
+        ≡ Some (audit (codes "h") (Some (codes "-c")) 1) }
     ensures equals { asked_by (codes "audit h --cert=a=b")
-        ≡ Some (Audit (codes "h") (Some (codes "a=b")) 1) }
+        ≡ Some (audit (codes "h") (Some (codes "a=b")) 1) }
     ensures minus_alone { asked_by (codes "audit h --cert -")
-        ≡ Some (Audit (codes "h") (Some (codes "-")) 1) }
+        ≡ Some (audit (codes "h") (Some (codes "-")) 1) }
 {}
 
 /// After `--` each word is one of the mode's.
 pub fn after_the_options()
     ensures as_file { asked_by (codes "audit -- --cert")
-        ≡ Some (Audit (codes "--cert") None 1) }
+        ≡ Some (audit (codes "--cert") None 1) }
     ensures between { asked_by (codes "check h -- c") ≡ Some (Check (codes "h") (codes "c")) }
-    ensures twice { asked_by (codes "audit -- --") ≡ Some (Audit (codes "--") None 1) }
+    ensures twice { asked_by (codes "audit -- --") ≡ Some (audit (codes "--") None 1) }
     ensures no_option { asked_by (codes "audit h -- --workers 2") ≡ None }
 {}
 

@@ -33,15 +33,29 @@ pub struct Workload {
     pub keys: u32,
 }
 
-/// A command with its files and settings. A file's name is not empty, and no two of a command are the same.
+/// What is said of a history.
 #[derive(Drop, Debug)]
-pub enum Task {
-    /// `audit FILE [--cert OUT] [--workers N]`: judge the history in FILE, and write the certificate to OUT.
+pub enum Measure {
+    /// How late its reads are, and whether it is 2-atomic.
     Audit {
-        file: Bytes,
+        /// The file for the certificate, where it is given.
         cert: Option<Bytes>,
         /// How many workers judge: 1 to 64, and 1 where the words do not say.
         workers: u32,
+    },
+    /// The least Δ, in ticks, at which it is 2-atomic.
+    Two,
+    /// The least number of ticks by which both ends of its operations have to be moved for it to be atomic.
+    Sides,
+}
+
+/// A command with its files and settings. A file's name is not empty, and no two of a command are the same.
+#[derive(Drop, Debug)]
+pub enum Task {
+    /// `audit FILE [--cert OUT] [--workers N]`, `two FILE` or `sides FILE`: judge the history in FILE by this measure.
+    Judge {
+        file: Bytes,
+        measure: Measure,
     },
     /// `check FILE CERT`: check the certificate in CERT against the history in FILE.
     Check {

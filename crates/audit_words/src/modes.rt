@@ -2,13 +2,13 @@
 
 ghost use Rattle.std.specs.Prelude.{◌≡◌, IfOk, IfSome};
 ghost use Rattle.clap.specs.Words.{found_of, rows_of};
-ghost use Rattle.audit_words.specs.Limits.{IsWithin, IsWorkload};
-ghost use Rattle.audit_words.specs.Tasks.{audit_of, check_of, workload_of, gen_of, trial_of, task_in};
+ghost use Rattle.audit_words.specs.Limits.{IsMeasure, IsWithin, IsWorkload};
+ghost use Rattle.audit_words.specs.Tasks.{audit_of, judge_of, check_of, workload_of, gen_of, trial_of, task_in};
 
 use crate::files::{are_two_names, is_name};
 use crate::line::{gives_only, value_in, values_in};
 use crate::number::{number_within, workers_of};
-use crate::{Task, Workload};
+use crate::{Measure, Task, Workload};
 use clap::ArgMatches;
 use stale_model::{Bytes, Memory};
 use std::alloc::Global;
@@ -30,11 +30,24 @@ fn audit_of(alloc: Global, matches: &ArgMatches) -> Result<Option<Task>, Memory>
         _ => return Ok(None),
     };
     let file = Bytes::of(alloc, file.as_bytes())?;
-    Ok(Some(Task::Audit {
-        file,
-        cert,
-        workers,
-    }))
+    let measure = Measure::Audit { cert, workers };
+    Ok(Some(Task::Judge { file, measure }))
+}
+
+// `two FILE` or `sides FILE`, by the measure
+fn judge_of(alloc: Global, matches: &ArgMatches, measure: Measure) -> Result<Option<Task>, Memory>
+    requires { IsMeasure measure }
+    ensures task { IfOk result (λ task. task ≡ judge_of measure (rows_of (found_of matches.now))) }
+    ensures within { IfOk result (λ task. IfSome task IsWithin) }
+{
+    let Some([file]) = values_in(matches, "args") else {
+        return Ok(None);
+    };
+    if !is_name(file) {
+        return Ok(None);
+    }
+    let file = Bytes::of(alloc, file.as_bytes())?;
+    Ok(Some(Task::Judge { file, measure }))
 }
 
 // `check FILE CERT`
@@ -93,6 +106,8 @@ pub(crate) fn task_in(alloc: Global, matches: &ArgMatches) -> Result<Option<Task
 {
     match value_in(matches, "mode") {
         Some("audit") if gives_only(matches, &["cert", "workers"]) => audit_of(alloc, matches),
+        Some("two") if gives_only(matches, &[]) => judge_of(alloc, matches, Measure::Two),
+        Some("sides") if gives_only(matches, &[]) => judge_of(alloc, matches, Measure::Sides),
         Some("check") if gives_only(matches, &[]) => check_of(alloc, matches),
         Some("gen") if gives_only(matches, &[]) => Ok(gen_of(matches)),
         Some("trial") if gives_only(matches, &["workers"]) => Ok(trial_of(matches)),

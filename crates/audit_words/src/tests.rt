@@ -15,22 +15,24 @@ fn words_of(alloc: Global, line: &str) -> Result<Vec<Word>, Fail> {
 #[test]
 fn gives_tasks(rt: HostRuntime) -> Result<(), Fail> {
     let words = words_of(rt.alloc(), "--workers 007 audit h --cert=-c")?;
-    let Some(
-        Task::Audit {
-            file,
-            cert,
-            workers,
-        },
-    ) = task_of(rt.alloc(), &words)?
-    else {
+    let Some(Task::Judge { file, measure }) = task_of(rt.alloc(), &words)? else {
         return Err(Fail::new("no audit"));
+    };
+    assert_eq!(rt; file.as_slice(), b"h".as_slice());
+    let Measure::Audit { cert, workers } = measure else {
+        return Err(Fail::new("another measure"));
     };
     let Some(cert) = cert else {
         return Err(Fail::new("no certificate"));
     };
-    assert_eq!(rt; file.as_slice(), b"h".as_slice());
     assert_eq!(rt; cert.as_slice(), b"-c".as_slice());
     assert_eq!(rt; workers, 7);
+    let words = words_of(rt.alloc(), "sides -- s")?;
+    let Some(Task::Judge { file, measure }) = task_of(rt.alloc(), &words)? else {
+        return Err(Fail::new("no sides"));
+    };
+    assert_eq!(rt; file.as_slice(), b"s".as_slice());
+    assert!(rt; matches!(&measure, Measure::Sides));
     let words = words_of(rt.alloc(), "check h -- c")?;
     let Some(Task::Check { file, cert }) = task_of(rt.alloc(), &words)? else {
         return Err(Fail::new("no such task"));

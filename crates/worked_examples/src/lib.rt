@@ -19,6 +19,8 @@ mod judgements;
 #[cfg(test)]
 mod large;
 #[cfg(test)]
+mod measures;
+#[cfg(test)]
 mod outside;
 #[cfg(test)]
 mod reading;

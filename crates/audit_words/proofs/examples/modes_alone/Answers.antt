@@ -6,6 +6,8 @@ pub returns : goal.returns
 unfolding clap_on_literals
 returns c = record {
   audit = refl;
+  two = refl;
+  sides = refl;
   check = refl;
   long_name = refl;
 }

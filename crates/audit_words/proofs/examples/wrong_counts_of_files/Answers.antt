@@ -7,6 +7,9 @@ unfolding clap_on_literals
 returns c = record {
   audit_none = refl;
   audit_two = refl;
+  measure_none = refl;
+  two_two = refl;
+  sides_two = refl;
   check_one = refl;
   check_three = refl;
 }

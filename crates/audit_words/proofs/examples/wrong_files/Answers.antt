@@ -6,6 +6,8 @@ pub returns : goal.returns
 unfolding clap_on_literals
 returns c = record {
   audit_empty = refl;
+  two_empty = refl;
+  sides_empty = refl;
   check_empty = refl;
   cert_empty = refl;
   cert_empty_word = refl;

@@ -8,6 +8,7 @@ returns c = record {
   no_word = refl;
   empty = refl;
   other = refl;
+  live = refl;
   longer = refl;
   capital = refl;
   file_first = refl;
