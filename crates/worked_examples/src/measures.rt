@@ -135,6 +135,12 @@ fn other_histories_are_measured(rt: HostRuntime) -> Result<(), Fail> {
                 sides: "key x sides 0\norder 0 1 2\ntotal keys 1 zero 1 worst 0\n",
             },
             Measured {
+                shows: "nanoseconds since 1970",
+                history: b"key,op,node,value,client,start,finish\r\n\"user,7\",write,n1,v1,0,1700000000000000000,1700000000000400000\r\n\"user,7\",write,n2,v2,1,1700000000000500000,1700000000000900000\r\n\"user,7\",read,n3,v1,2,1700000000002000000,1700000000002300000\r\n",
+                two: "key user,7 two 0\norder 0 1 2 3\ntotal keys 1 zero 1 worst 0\n",
+                sides: "key user,7 sides 50000 pair 1 2 2 3\norder 0 2 1 3\ntotal keys 1 zero 0 worst 50000\n",
+            },
+            Measured {
                 shows: "slack of a stale read",
                 history: b"client,op,key,value,start,finish,slack\n0,w,x,a,1,2,\n0,w,x,b,3,4,\n1,r,x,a,7,9,2\n",
                 two: "key x two 0\norder 0 1 2 3\ntotal keys 1 zero 1 worst 0\n",
