@@ -6,7 +6,7 @@ ghost use Rattle.audit_commands.specs.Status.{number};
 /// How a call of the program ended.
 #[derive(Clone, Copy, Debug, PartialEq, Eq)]
 pub enum Status {
-    /// What the words ask for was done: the report was written, or each verdict of the certificate is shown.
+    /// What the words ask for was done: its text was written, or each verdict of the certificate is shown.
     Done,
     /// Some verdict of the certificate isn't shown.
     NotShown,

@@ -12,10 +12,11 @@ mod words;
 mod writing;
 
 use crate::parts::Reading;
-use crate::words::next_line;
 pub use lines::CertLine;
+pub use numbers::number_of;
 use stale_model::{List, Memory, Verdict};
 use std::alloc::Global;
+pub use words::next_line;
 pub use writing::{push_numbers, push_order, push_refutation, write_cert};
 
 /// Why a text is not a certificate. Lines are counted from 1.

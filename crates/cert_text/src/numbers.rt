@@ -71,8 +71,8 @@ fn long_number(word: &[u8], most: u64) -> Option<u64>
     if number <= most { Some(number) } else { None }
 }
 
-// The number that a word is, where it is at most `most`.
-fn number_of(word: &[u8], most: u64) -> Option<u64>
+/// The number that a word is, where it is at most `most`: digits, of which the first is a zero only where it is alone.
+pub fn number_of(word: &[u8], most: u64) -> Option<u64>
     ensures { result ≡ number_of most word.now }
 {
     if word.len() > 19 {

@@ -10,8 +10,8 @@ fn place_of(text: &[u8], byte: u8) -> Option<usize>
     text.iter().position(|other| *other == byte)
 }
 
-/// The next line of a text, and what stands after it, if there is one.
-pub(crate) fn next_line(text: &[u8]) -> Option<(&[u8], &[u8])>
+/// The next line of a text, without its line feed, and what stands after it; none where no line feed is left.
+pub fn next_line(text: &[u8]) -> Option<(&[u8], &[u8])>
     ensures none { IfNone result (lines_of text.now ≡ text.now ∷ []) }
     ensures some { IfSome result (λ p. lines_of text.now ≡ p.0.now ∷ lines_of p.1.now) }
     ensures shorter { IfSome result (λ p. length p.1.now < length text.now) }
