@@ -1,0 +1,5 @@
+pub mod Fields
+pub mod Tickets
+pub mod LineSteps
+pub mod Replies
+pub mod Definite

@@ -1,0 +1,9 @@
+//! A run of the store, read back from its two files.
+#![tactic(auto)]
+
+mod lines;
+mod reading;
+mod trace;
+
+pub use reading::{TraceFault, trace_of};
+pub use trace::Trace;
