@@ -63,8 +63,8 @@ fn has_reply(taken: &[Took], replica: u32) -> bool
     taken.iter().any(|took| took.replica == replica)
 }
 
-/// Whether a reply of this replica is older than the stamp.
-pub(crate) fn is_stale(taken: &[Took], replica: u32, stamp: u64) -> bool
+/// Whether a reply of this replica, among those that a call took, is older than the stamp.
+pub fn is_stale(taken: &[Took], replica: u32, stamp: u64) -> bool
     ensures { result ≡ is_stale_reply stamp replica taken.now }
 {
     taken
@@ -127,8 +127,8 @@ fn fresher(best: &Took, took: &Took) -> Took
     }
 }
 
-/// The first reply with the greatest stamp.
-pub(crate) fn freshest(taken: &[Took]) -> Took
+/// The first reply with the greatest stamp, of those that a call took.
+pub fn freshest(taken: &[Took]) -> Took
     requires { 0 < length taken.now }
     ensures { result ≡ first_freshest taken.now }
 {

@@ -10,5 +10,6 @@ mod plan;
 mod tests;
 
 pub use client::{Client, ClientEnd};
+pub use gather::{freshest, is_stale};
 pub use letters::{Note, Route};
 pub use plan::plan_of;

@@ -16,10 +16,12 @@ use std::marker::Model;
 use ticket_clock::{Clock, Seat};
 
 /// What is held of a key: a value, and the start of its write.
-#[derive(Clone, Copy)]
-struct HeldPair {
-    stamp: u64,
-    value: u32,
+#[derive(Clone, Copy, Debug, PartialEq, Eq)]
+pub struct HeldPair {
+    /// The ticket at which the write of the value started; 0 where nobody wrote.
+    pub stamp: u64,
+    /// The number of the value, counted from 1; 0 is absent.
+    pub value: u32,
 }
 
 /// A replica. A contract sees its number, how many keys it has, how many places its journal has, and the journal.
@@ -154,8 +156,8 @@ fn hold_nothing(alloc: Global, keys: u32) -> Result<Vec<HeldPair>, Memory>
     vec![in alloc; nothing; keys as usize].map_err(|_| Memory)
 }
 
-// The pair of the reply to a request, where this is held of its key.
-fn answer(request: &Request, here: HeldPair) -> HeldPair
+/// The pair of the reply to a request, where this is held of its key: for a read what is held, else what the request says.
+pub fn answer(request: &Request, here: HeldPair) -> HeldPair
     ensures { (js : List JournalEntry) → held request.now.key js ≡ as_pair here
         → as_pair result ≡ answer_to js request.now request.now.ask }
 {
@@ -169,8 +171,8 @@ fn answer(request: &Request, here: HeldPair) -> HeldPair
     }
 }
 
-// Whether a request changes what is held: a write or a repair.
-fn changes(ask: Ask) -> bool
+/// Whether a request changes what is held: a write or a repair.
+pub fn changes(ask: Ask) -> bool
     ensures { result ≡ changes ask }
 {
     match ask {
