@@ -1,0 +1,6 @@
+//! The score of a key while its operations come in: the least Δ of those that have.
+#![tactic(auto)]
+
+mod live;
+
+pub use live::{Fed, Live};
