@@ -2,4 +2,5 @@ pub mod Totals
 pub mod Measures
 pub mod TwoTexts
 pub mod SidesTexts
+pub mod LiveTexts
 pub mod Counting

@@ -2,10 +2,12 @@
 #![tactic(auto)]
 
 mod keys;
+mod live;
 mod sides;
 mod totals;
 mod two;
 
+pub use live::live_text;
 pub use sides::{SidesVerdict, sides_text};
 pub use two::{LeastDelta, TwoVerdict, two_text};
 
