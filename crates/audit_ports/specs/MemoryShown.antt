@@ -17,6 +17,10 @@ shelf_files shelf = files_of (listed shelf.files)
 abbrev pub shelf_calls : MemoryShelf → Calls
 shelf_calls shelf = shelf.calls
 
+-- the most bytes that one read of a shelf gives
+abbrev pub shelf_cut : MemoryShelf → ℕ
+shelf_cut shelf = shelf.cut
+
 -- what is known of a shelf in memory: all of it
 abbrev pub memory_shown : MemoryShelf → Shown
 memory_shown shelf = record { read_faults = shelf.read_faults; write_faults = shelf.write_faults; misses = shelf.misses; files = Some (shelf_files shelf); reading = option_map (reading_of (listed shelf.files)) shelf.opened; writing = writing_of shelf.is_writing (listed shelf.files) }

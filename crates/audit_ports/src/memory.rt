@@ -141,14 +141,14 @@ impl FileList {
     }
 }
 
-// Copies the bytes from a place on to the front of a buffer, as many as there are and fit.
-fn copy_from(bytes: &[u8], place: usize, into: &mut [u8]) -> usize
+// Copies the bytes from a place on to the front of a buffer, as many as there are and fit, and at most `cut`.
+fn copy_from(bytes: &[u8], place: usize, cut: usize, into: &mut [u8]) -> usize
     requires { place ≤ length bytes.now }
-    ensures count { result ≡ min (length into.new) (length bytes.now - place) }
+    ensures count { result ≡ min (min (length into.new) cut) (length bytes.now - place) }
     ensures bytes { take result into.new ≡ take result (drop place bytes.now) }
 {
     let rest = &bytes[place..];
-    let count = rest.len().min(into.len());
+    let count = into.len().min(cut).min(rest.len());
     into[..count].copy_from_slice(&rest[..count]);
     count
 }
@@ -165,12 +165,15 @@ pub struct MemoryShelf {
     misses: u64,
     opened: Option<Opened>,
     is_writing: bool,
+    cut: usize,
+    ghost cuts_some: { 1 ≤ cut },
     ghost open_file: { ForSome opened (IsOpened (listed files)) },
     ghost written_file: { is_writing ≡ true → 0 < vec_len files.created },
 }
 
 impl MemoryShelf {
-    ghost use Rattle.audit_ports.specs.MemoryShown.{memory_shown, shelf_calls, shelf_files};
+    ghost use Rattle.std.specs.Prelude.{◌^◌};
+    ghost use Rattle.audit_ports.specs.MemoryShown.{memory_shown, shelf_calls, shelf_files, shelf_cut};
 
     /// Holds these files, each a name with its bytes. Its calls are numbered from 1 over all methods of `Shelf`, and
     /// those whose number is in `fail` fail. Of two files of one name the second could never be opened. The files are
@@ -183,8 +186,36 @@ impl MemoryShelf {
         requires { HaveDistinctNames files }
         ensures shown { IfOk result (λ shelf. memory_shown shelf ≡ fresh (Some (files_of files))) }
         ensures calls { IfOk result (λ shelf. shelf_calls shelf ≡ no_calls fail) }
+        ensures cut { IfOk result (λ shelf. shelf_cut shelf ≡ 2 ^ 64 - 1) }
     {
-        Ok(MemoryShelf {
+        Ok(MemoryShelf::over(alloc, files, fail, usize::MAX))
+    }
+
+    /// As `prepare`, but each `read` gives at most `cut` bytes. `cut` is at least 1, so a read gives at least one byte
+    /// where the open file has some left.
+    pub fn prepare_cut(
+        alloc: Global,
+        files: List<(Bytes, Bytes)>,
+        fail: List<u32>,
+        cut: u32,
+    ) -> Result<MemoryShelf, Memory>
+        requires distinct { HaveDistinctNames files }
+        requires some { 1 ≤ cut }
+        ensures shown { IfOk result (λ shelf. memory_shown shelf ≡ fresh (Some (files_of files))) }
+        ensures calls { IfOk result (λ shelf. shelf_calls shelf ≡ no_calls fail) }
+        ensures cut { IfOk result (λ shelf. shelf_cut shelf ≡ cut) }
+    {
+        Ok(MemoryShelf::over(alloc, files, fail, cut as usize))
+    }
+
+    // A shelf with these files, each of whose reads gives at most `cut` bytes.
+    fn over(alloc: Global, files: List<(Bytes, Bytes)>, fail: List<u32>, cut: usize) -> MemoryShelf
+        requires { 1 ≤ cut }
+        ensures shown { memory_shown result ≡ fresh (Some (files_of files)) }
+        ensures calls { shelf_calls result ≡ no_calls fail }
+        ensures cut { shelf_cut result ≡ cut }
+    {
+        MemoryShelf {
             alloc,
             files: FileList {
                 created: Vec::new(alloc),
@@ -196,7 +227,8 @@ impl MemoryShelf {
             misses: 0,
             opened: None,
             is_writing: false,
-        })
+            cut,
+        }
     }
 
     /// The bytes of the file of this name as they stand, if there is one.
@@ -214,13 +246,14 @@ impl Shelf for MemoryShelf {
     ghost use Rattle.std.specs.Prelude.{◌≡◌, ◌<◌, ◌↔◌, min, length, None, IsSome, IsErr, OnErr, IfOk, IsErrOf};
     ghost use Rattle.audit_ports.specs.Shelf.{Opens, Reads, Creates, WritesPiece, Finishes, file_at};
     ghost use Rattle.audit_ports.specs.Calls.{CountsCall, IsFailingCall};
-    ghost use Rattle.audit_ports.specs.MemoryShown.{memory_shown, shelf_calls, shelf_files, bytes_left};
+    ghost use Rattle.audit_ports.specs.MemoryShown.{memory_shown, shelf_calls, shelf_files, shelf_cut, bytes_left};
 
     ghost shown = { memory_shown };
 
     fn open(&mut self, name: &[u8]) -> Result<(), OpenFault>
         ensures opens { Opens name.now (memory_shown self.old) result (memory_shown self.new) }
         ensures counts { CountsCall (shelf_calls self.old) (shelf_calls self.new) }
+        ensures cut { shelf_cut self.new ≡ shelf_cut self.old }
         ensures failed { IsErrOf result OpenFault.Failed ↔ IsFailingCall (shelf_calls self.new) }
         ensures missing { IsErrOf result OpenFault.Missing ↔
             ((¬ (IsFailingCall (shelf_calls self.new))) ×
@@ -244,15 +277,18 @@ impl Shelf for MemoryShelf {
         requires room { 0 < length into.old }
         ensures reads { Reads into.new (memory_shown self.old) result (memory_shown self.new) }
         ensures counts { CountsCall (shelf_calls self.old) (shelf_calls self.new) }
+        ensures cut { shelf_cut self.new ≡ shelf_cut self.old }
         ensures failed { IsErr result ↔ IsFailingCall (shelf_calls self.new) }
-        ensures whole { IfOk result (λ n. n ≡ min (length into.new) (bytes_left self.old)) }
+        ensures whole { IfOk result (λ n.
+            n ≡ min (min (length into.new) (shelf_cut self.old)) (bytes_left self.old)) }
     {
         let opened = self.opened.take().unwrap();
         if self.calls.count() {
             raise(&mut self.read_faults);
             return Err(Failed);
         }
-        let count = copy_from(self.files.bytes(opened.index), opened.place, into);
+        let file = self.files.bytes(opened.index);
+        let count = copy_from(file, opened.place, self.cut, into);
         self.opened = Some(Opened {
             index: opened.index,
             place: opened.place + count,
@@ -264,6 +300,7 @@ impl Shelf for MemoryShelf {
         requires { (memory_shown self.old).writing ≡ None }
         ensures creates { Creates name.now (memory_shown self.old) result (memory_shown self.new) }
         ensures counts { CountsCall (shelf_calls self.old) (shelf_calls self.new) }
+        ensures cut { shelf_cut self.new ≡ shelf_cut self.old }
         ensures failed { IsFailingCall (shelf_calls self.new) → IsErr result }
         ensures refused { OnErr result (shelf_files self.new ≡ shelf_files self.old) }
     {
@@ -289,6 +326,7 @@ impl Shelf for MemoryShelf {
         ensures writes { WritesPiece piece.now (memory_shown self.old) result
             (memory_shown self.new) }
         ensures counts { CountsCall (shelf_calls self.old) (shelf_calls self.new) }
+        ensures cut { shelf_cut self.new ≡ shelf_cut self.old }
         ensures failed { IsFailingCall (shelf_calls self.new) → IsErr result }
         ensures refused { OnErr result (shelf_files self.new ≡ shelf_files self.old) }
     {
@@ -311,6 +349,7 @@ impl Shelf for MemoryShelf {
         requires { IsSome (memory_shown self.old).writing }
         ensures finishes { Finishes (memory_shown self.old) result (memory_shown self.new) }
         ensures counts { CountsCall (shelf_calls self.old) (shelf_calls self.new) }
+        ensures cut { shelf_cut self.new ≡ shelf_cut self.old }
         ensures failed { IsErr result ↔ IsFailingCall (shelf_calls self.new) }
     {
         self.is_writing = false;

@@ -1,5 +1,5 @@
 //! The real files and outputs, of which no clause says what they hold; a file in memory that is written; and jobs in threads.
-ghost use Rattle.std.specs.Prelude.{◌≡◌, None, IfOk};
+ghost use Rattle.std.specs.Prelude.{◌≡◌, ◌≤◌, None, IfOk};
 ghost use Rattle.audit_ports.specs.MemoryShown.{memory_shown};
 
 use crate::real::read_stream;
@@ -217,8 +217,9 @@ fn a_real_file_that_was_read_is_not_written(rt: HostRuntime) -> Result<(), Fail>
     Ok(())
 }
 
-// A shelf in memory with one file, "h", whose calls of these numbers fail.
-fn shelf_with_h(alloc: Global, fail: &[u32]) -> Result<MemoryShelf, AllocError>
+// A shelf in memory with one file, "h", whose calls of these numbers fail; a read gives at most `cut` bytes.
+fn shelf_with_h(alloc: Global, fail: &[u32], cut: u32) -> Result<MemoryShelf, AllocError>
+    requires { 1 ≤ cut }
     ensures { IfOk result (λ shelf. (memory_shown shelf).writing ≡ None) }
 {
     let (Ok(name), Ok(bytes)) = (Bytes::of(alloc, b"h"), Bytes::of(alloc, b"abc")) else {
@@ -227,16 +228,23 @@ fn shelf_with_h(alloc: Global, fail: &[u32]) -> Result<MemoryShelf, AllocError>
     let mut files = Vec::new(alloc);
     files.push((name, bytes))?;
     let fail = List::from_vec(Vec::from_slice(alloc, fail)?);
-    match MemoryShelf::prepare(alloc, List::from_vec(files), fail) {
+    match MemoryShelf::prepare_cut(alloc, List::from_vec(files), fail, cut) {
         Ok(shelf) => Ok(shelf),
         Err(_) => Err(AllocError),
     }
 }
 
+#[test]
+fn a_read_in_memory_gives_no_more_than_the_cut(rt: HostRuntime) -> Result<(), Fail> {
+    let mut shelf = shelf_with_h(rt.alloc(), &[], 1)?;
+    assert_eq!(rt; read_thrice(&mut shelf, b"h"), Ok(([1, 1, 1], *b"c\0")));
+    Ok(())
+}
+
 // Calls 1 to 3 write one file whole; call 4 creates the other, and call 5 is its write.
 #[test]
 fn a_refused_write_adds_nothing_in_memory(rt: HostRuntime) -> Result<(), Fail> {
-    let mut shelf = shelf_with_h(rt.alloc(), &[5])?;
+    let mut shelf = shelf_with_h(rt.alloc(), &[5], 9)?;
     let first = write_file(&mut shelf, b"c", b"new");
     assert_eq!(rt; first, Ok(()));
     assert!(rt; shelf.file(b"c") == Some(b"new".as_slice()), "before");

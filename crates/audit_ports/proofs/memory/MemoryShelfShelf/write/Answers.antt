@@ -6,6 +6,7 @@ use Rattle.audit_ports.proofs.memory.MemoryShelfShelf.write.Goals as goal
 
 pub invariant_of-self-in-Ok : goal.invariant_of-self-in-Ok
 invariant_of-self-in-Ok c = record {
+  cuts_some = c.args.self.now.cuts_some;
   open_file = λ opened is. subst (λ fs. IsOpened fs opened) (sym c.in-Ok.ensures.ok)
       (still_opened (listed c.args.self.now.files) c.args.piece.now opened (c.args.self.now.open_file opened is));
   written_file = λ e. c.append.ensures.some;
@@ -13,6 +14,7 @@ invariant_of-self-in-Ok c = record {
 
 pub invariant_of-self-in-Err : goal.invariant_of-self-in-Err
 invariant_of-self-in-Err c = record {
+  cuts_some = c.args.self.now.cuts_some;
   open_file = λ opened is. subst (λ fs. IsOpened fs opened) (sym c.in-Err.ensures.err) (c.args.self.now.open_file opened is);
   written_file = λ e. search rules;
 }
