@@ -1,20 +1,19 @@
 -- The line of a call in a history reads as the call, of whose replies their tickets alone are known.
-use Rattle.std.proofs.Common.{◌≡◌, ◌<◌, ◌≤◌, ◌^◌, ◌*◌, ◌+◌, ℕ, List, [], ◌∷◌, map, length, Option, Some, refl, ◌∙◌, ap, inl, arith}
+use Rattle.std.proofs.Common.{◌≡◌, ◌<◌, ◌≤◌, ◌^◌, ◌*◌, ◌+◌, ℕ, List, [], ◌∷◌, map, length, Some, refl, ◌∙◌, ap, inl, arith}
 use Rattle.std.specs.Prelude.{All}
 use Rattle.std.specs.Fmt.{decimal}
 use Rattle.std.specs.List.{join_with_byte}
 use Rattle.std.proofs.lemmas.Bool.{ne_eqb}
 use Rattle.std.proofs.lemmas.List.Elements.{All-from_recursion}
 use Rattle.std.proofs.lemmas.Nat.{mul-le}
-use Rattle.stale_model.specs.declared.Kind.{Kind}
 use Rattle.stale_model.specs.declared.Kind.TheVariants.{Write}
 use Rattle.stale_model.specs.declared.store.Settings.{Settings}
 use Rattle.stale_model.specs.declared.store.Entry.{Entry}
 use Rattle.stale_model.specs.Settings.{AreSettings}
 use Rattle.stale_model.specs.Calls.{taken_by}
 use Rattle.stale_model.specs.Texts.{comma, semicolon, op_text, key_text, value_text, took_text, call_fields}
-use Rattle.recorded_laws.specs.Laws.{IsTick}
 use Rattle.trace_check.specs.Lines.{value_limit, most_taken, split_at, took_at, call_of}
+use Rattle.trace_laws.specs.Laws.{IsTick}
 use Rattle.trace_laws.proofs.Parts.{Lacks, cut_apart, joined_lacks, decimal_lacks, key_lacks, value_lacks, op_lacks}
 use Rattle.trace_laws.proofs.Fields.{number_reads, tick_reads, key_reads, value_reads, kind_reads, tickets_lack, tickets_read}
 
@@ -62,16 +61,31 @@ module _ (s : Settings) (limits : AreSettings s) (e : Entry) (is : IsReadableCal
       let value = is.value in
       let start = is.start in
       let finish = is.finish in
-      All-from_recursion (Lacks c) (call_fields e)
-      ( decimal_lacks c e.client (inl low) client_low
-      , ( op_lacks c e.kind low
-      , ( key_lacks c e.key low key_low
-      , ( value_lacks c e.value low (omega arith)
-      , ( decimal_lacks c e.start (inl low) (omega arith)
-      , ( decimal_lacks c e.finish (inl low) (omega arith)
-      , ( decimal_lacks c e.seq (inl low) seq_low
-      , ( joined_lacks c semicolon (map (λ t. decimal t.serve) (taken_by e)) (ne_eqb semicolon c (λ same. omega arith)) (tickets_lack c (taken_by e) (inl low) is.taken)
-      , tt))))))))
+      All-from_recursion (Lacks c) (call_fields e) (
+        decimal_lacks c e.client (inl low) client_low,
+        (
+          op_lacks c e.kind low,
+          (
+            key_lacks c e.key low key_low,
+            (
+              value_lacks c e.value low (omega arith),
+              (
+                decimal_lacks c e.start (inl low) (omega arith),
+                (
+                  decimal_lacks c e.finish (inl low) (omega arith),
+                  (
+                    decimal_lacks c e.seq (inl low) seq_low,
+                    (
+                      joined_lacks c semicolon (map (λ t. decimal t.serve) (taken_by e)) (ne_eqb semicolon c (λ same. omega arith)) (tickets_lack c (taken_by e) (inl low) is.taken),
+                      tt,
+                    ),
+                  ),
+                ),
+              ),
+            ),
+          ),
+        ),
+      )
 
   fields_read : call_of s (call_fields e) ≡ Some (with_tickets e)
   fields_read =

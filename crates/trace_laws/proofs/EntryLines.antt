@@ -1,5 +1,5 @@
 -- The line of an entry in a journal file reads as the entry.
-use Rattle.std.proofs.Common.{◌≡◌, ◌<◌, ◌≤◌, ◌^◌, ◌+◌, ℕ, true, List, [], ◌∷◌, Option, Some, None, refl, sym, ◌∙◌, ap, inl, arith}
+use Rattle.std.proofs.Common.{◌≡◌, ◌<◌, ◌≤◌, ◌^◌, ◌+◌, ℕ, true, List, [], ◌∷◌, Option, Some, refl, sym, ◌∙◌, ap, inl, arith}
 use Rattle.std.specs.Prelude.{All}
 use Rattle.std.specs.Fmt.{decimal}
 use Rattle.std.specs.List.{join_with_byte}
@@ -9,10 +9,10 @@ use Rattle.stale_model.specs.declared.store.JournalEntry.{JournalEntry}
 use Rattle.stale_model.specs.Settings.{AreSettings}
 use Rattle.stale_model.specs.Journals.{changes}
 use Rattle.stale_model.specs.Texts.{comma, ask_text, key_text, value_text, journal_fields}
-use Rattle.recorded_laws.specs.Laws.{IsTick}
 use Rattle.trace_check.specs.declared.reading.TraceFault.TheVariants as fault
-use Rattle.trace_check.specs.Lines.{tick_limit, value_limit, split_at, ask_of, entry_of}
+use Rattle.trace_check.specs.Lines.{tick_limit, value_limit, ask_of, entry_of}
 use Rattle.trace_check.specs.Reading.{replica_of, read_entry}
+use Rattle.trace_laws.specs.Laws.{IsTick}
 use Rattle.trace_laws.proofs.Parts.{Lacks, cut_apart, joined_lacks, decimal_lacks, key_lacks, value_lacks, ask_lacks}
 use Rattle.trace_laws.proofs.Fields.{number_reads, tick_reads, key_reads, reply_reads}
 use Rattle.trace_laws.proofs.FileLines.{EachReads}
@@ -63,17 +63,34 @@ module _ (s : Settings) (limits : AreSettings s) where
         let start = is.start in
         let value = is.value in
         let stamp = is.stamp in
-        All-from_recursion (Lacks c) (entry_fields j)
-        ( decimal_lacks c j.reply.replica (inl low) replica_low
-        , ( decimal_lacks c j.reply.serve (inl low) (omega arith)
-        , ( decimal_lacks c j.request.client (inl low) client_low
-        , ( decimal_lacks c j.request.seq (inl low) seq_low
-        , ( decimal_lacks c j.request.start (inl low) (omega arith)
-        , ( key_lacks c j.request.key low key_low
-        , ( ask_lacks c j.request.ask low
-        , ( value_lacks c j.reply.value low (omega arith)
-        , ( decimal_lacks c j.reply.stamp (inl low) (omega arith)
-        , tt)))))))))
+        All-from_recursion (Lacks c) (entry_fields j) (
+          decimal_lacks c j.reply.replica (inl low) replica_low,
+          (
+            decimal_lacks c j.reply.serve (inl low) (omega arith),
+            (
+              decimal_lacks c j.request.client (inl low) client_low,
+              (
+                decimal_lacks c j.request.seq (inl low) seq_low,
+                (
+                  decimal_lacks c j.request.start (inl low) (omega arith),
+                  (
+                    key_lacks c j.request.key low key_low,
+                    (
+                      ask_lacks c j.request.ask low,
+                      (
+                        value_lacks c j.reply.value low (omega arith),
+                        (
+                          decimal_lacks c j.reply.stamp (inl low) (omega arith),
+                          tt,
+                        ),
+                      ),
+                    ),
+                  ),
+                ),
+              ),
+            ),
+          ),
+        )
 
     -- the entry is all that its line says
     same_entry : ◌≡◌ {A = JournalEntry}
@@ -110,7 +127,7 @@ module _ (s : Settings) (limits : AreSettings s) where
         ap (entry_of s (replica_of before))
         (cut_apart comma (decimal j.reply.replica)
         (decimal j.reply.serve ∷ decimal j.request.client ∷ decimal j.request.seq ∷ decimal j.request.start ∷ key_text j.request.key ∷ ask_text j.request.ask
-            ∷ value_text j.reply.value ∷ decimal j.reply.stamp ∷ [])
+        ∷ value_text j.reply.value ∷ decimal j.reply.stamp ∷ [])
         (entry_lacks comma (omega arith)))
         ∙ fields_read (replica_of before) from
 
@@ -119,7 +136,8 @@ module _ (s : Settings) (limits : AreSettings s) where
       → EachReads fault.Journal (read_entry s) entry_fields (λ j. j) before js
   entries_read before [] each ordered = tt
   entries_read before (j ∷ js) each (from, ordered) =
-      let is = All-head (IsReadableEntry s) j js each in
-      ( joined_lacks 10 comma (entry_fields j) refl (entry_lacks j is 10 (omega arith))
-      , (entry_reads j is before from, entries_read (Some j) js (All-tail (IsReadableEntry s) j js each) ordered)
+      let is = All-head (IsReadableEntry s) j js each in (
+        joined_lacks 10 comma (entry_fields j) refl (entry_lacks j is 10 (omega arith)),
+        entry_reads j is before from,
+        entries_read (Some j) js (All-tail (IsReadableEntry s) j js each) ordered,
       )

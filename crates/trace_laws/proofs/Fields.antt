@@ -1,5 +1,5 @@
 -- What the fields of the two files read as.
-use Rattle.std.proofs.Common.{◌≡◌, ◌⊎◌, ◌<◌, ◌≤◌, ◌^◌, ◌&&◌, ℕ, zero, suc, Bool, true, false, cond, nat_le, nat_lt, List, [], ◌∷◌, map, length, Some, None, refl, ◌∙◌, ap, inl, inr, arith}
+use Rattle.std.proofs.Common.{◌≡◌, ◌⊎◌, ◌<◌, ◌≤◌, ◌^◌, ◌&&◌, ℕ, zero, suc, Bool, true, false, cond, nat_le, nat_lt, List, [], ◌∷◌, map, length, Some, None, refl, ◌∙◌, ap, inr, arith}
 use Rattle.std.specs.Prelude.{All}
 use Rattle.std.specs.Fmt.{decimal}
 use Rattle.std.specs.List.{join_with_byte}
@@ -16,12 +16,11 @@ use Rattle.stale_model.specs.declared.store.Request.{Request}
 use Rattle.stale_model.specs.declared.store.Took.{Took}
 use Rattle.stale_model.specs.Journals.{Pair, changes, answer_to}
 use Rattle.stale_model.specs.Texts.{semicolon, op_text, ask_text, key_text, value_text}
-use Rattle.history_csv.proofs.WrittenNumbers.{value_text-some}
 use Rattle.cert_text.specs.Numbers.{is_numeral}
 use Rattle.cert_text.proofs.Numerals.{number_of-decimal}
-use Rattle.recorded_laws.specs.Laws.{IsTick}
-use Rattle.trace_check.specs.Lines.{tick_limit, value_limit, most_taken, split_at, number_between, tick_of, key_of, named_value, value_or_empty, value_of, kind_of, ask_of, ticks_of, tickets_of}
-use Rattle.trace_laws.proofs.Parts.{Lacks, cut_apart, decimal_lacks}
+use Rattle.trace_check.specs.Lines.{tick_limit, value_limit, most_taken, number_between, tick_of, key_of, named_value, value_or_empty, value_of, kind_of, ask_of, ticks_of, tickets_of}
+use Rattle.trace_laws.specs.Laws.{IsTick}
+use Rattle.trace_laws.proofs.Parts.{Lacks, cut_apart, decimal_lacks, value_text-some}
 
 read_so : (a b : Bool) (v n : ℕ) → cond (a && b) (Some v) None ≡ Some n → (a ≡ true) × (v ≡ n)
 read_so true true v n e = (refl, cc)
@@ -43,7 +42,7 @@ number_reads least limit n low high fits =
 
 -- a tick
 pub tick_reads : (t : ℕ) → IsTick t → tick_of (decimal t) ≡ Some t
-tick_reads t (low, high) = number_reads 1 tick_limit t low (omega arith) (omega arith)
+tick_reads t (low, high) = number_reads 1 tick_limit t low high (omega arith)
 
 -- the name of a key
 pub key_reads : (keys n : ℕ) → n < keys → n < 2 ^ 64 → key_of keys (key_text n) ≡ Some n

@@ -1,5 +1,5 @@
 -- The journals of a file: their lines, one journal after the other, and each journal again.
-use Rattle.std.proofs.Common.{◌≡◌, ◌<◌, ◌≤◌, ◌+◌, ◌==◌, ℕ, zero, suc, false, List, [], ◌∷◌, ◌++◌, map, filter, length, get_or, refl, sym, ◌∙◌, ap, ap₂, arith, append-nil, eq-eqb}
+use Rattle.std.proofs.Common.{◌≡◌, ◌<◌, ◌≤◌, ◌+◌, ◌==◌, ℕ, zero, suc, List, [], ◌∷◌, ◌++◌, map, filter, length, get_or, refl, sym, ◌∙◌, ap, ap₂, arith, append-nil, eq-eqb}
 use Rattle.std.specs.Prelude.{All}
 use Rattle.std.specs.List.{flat_map, range_with_len}
 use Rattle.std.proofs.lemmas.Bool.{ne_eqb}
@@ -25,10 +25,10 @@ AreOf k (js ∷ rest) = All (λ j. j.reply.replica ≡ k) js × AreOf (k + 1) re
 
 pub are_of : (k : ℕ) (journals : List (List JournalEntry)) → ((i : ℕ) → i < length journals → All (λ j. j.reply.replica ≡ k + i) (get_or journals i [])) → AreOf k journals
 are_of k [] each = tt
-are_of k (js ∷ rest) each =
-    ( All-weaker (λ (j : JournalEntry). j.reply.replica ≡ k + 0) (λ (j : JournalEntry). j.reply.replica ≡ k) (λ j e. omega arith) js (each 0 (omega arith))
-    , are_of (k + 1) rest (λ i low. All-weaker (λ (j : JournalEntry). j.reply.replica ≡ k + suc i) (λ (j : JournalEntry). j.reply.replica ≡ k + 1 + i) (λ j e. omega arith) (get_or rest i []) (each (suc i) (omega arith)))
-    )
+are_of k (js ∷ rest) each = (
+  All-weaker (λ (j : JournalEntry). j.reply.replica ≡ k + 0) (λ (j : JournalEntry). j.reply.replica ≡ k) (λ j e. omega arith) js (each 0 (omega arith)),
+  are_of (k + 1) rest (λ i low. All-weaker (λ (j : JournalEntry). j.reply.replica ≡ k + suc i) (λ (j : JournalEntry). j.reply.replica ≡ k + 1 + i) (λ j e. omega arith) (get_or rest i []) (each (suc i) (omega arith))),
+)
 
 same_text : (k : ℕ) (js : List JournalEntry) → All (λ j. j.reply.replica ≡ k) js
     → flat_map (λ j. record_text (journal_fields k j)) js ≡ flat_map (λ j. record_text (entry_fields j)) js

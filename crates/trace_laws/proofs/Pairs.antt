@@ -1,7 +1,6 @@
 -- The pairs in the journals of a run: each is nothing, or was written by a call.
 use Rattle.std.proofs.Common.{◌≡◌, ◌⊎◌, ℕ, ◌<◌, ◌≤◌, ◌==◌, ◌&&◌, Bool, true, false, cond, not, nat_lt, List, [], ◌∷◌, refl, sym, ◌∙◌, ap, inl, inr, subst, arith, eq-eqb, ltb-true}
 use Rattle.std.specs.Prelude.{Contains}
-use Rattle.std.specs.List.{list_any}
 use Rattle.std.proofs.lemmas.Bool.{and_parts, or_cases, both_ways}
 use Rattle.std.proofs.lemmas.List.Elements.{All-contains}
 use Rattle.stale_model.specs.declared.Kind.{Kind}
@@ -16,7 +15,7 @@ use Rattle.stale_model.specs.declared.store.Took.{Took}
 use Rattle.stale_model.specs.declared.store.Entry.{Entry}
 use Rattle.stale_model.specs.Operations.{is_write_kind}
 use Rattle.stale_model.specs.Settings.{AreSettings}
-use Rattle.stale_model.specs.Journals.{Pair, changes, pair_of, held, answer_to}
+use Rattle.stale_model.specs.Journals.{Pair, changes, pair_of, answer_to}
 use Rattle.stale_model.specs.Calls.{taken_by, freshest, is_stale, ask_of, request_of, repair_of, repairs, sent_to}
 use Rattle.stale_model.specs.RecordedRuns.{entries_of, journal_of, served_for, ReadsFreshest, IsRecordedRun}
 use Rattle.stale_model.proofs.Members.{empty_has_none, kept_is_there, kept_from, mapped_from, before_flattened}

@@ -1,5 +1,5 @@
 -- Texts that are joined, and cut apart again.
-use Rattle.std.proofs.Common.{◌≡◌, ◌⊎◌, ◌<◌, ◌^◌, ◌==◌, ℕ, zero, suc, true, false, List, [], ◌∷◌, ◌++◌, refl, ◌∙◌, ap, inl, inr, arith}
+use Rattle.std.proofs.Common.{◌≡◌, ◌⊎◌, ◌<◌, ◌≤◌, ◌^◌, ◌==◌, ℕ, zero, suc, true, false, List, [], ◌∷◌, refl, ◌∙◌, ap, inl, inr, arith}
 use Rattle.std.specs.Prelude.{All}
 use Rattle.std.specs.Char.{is_ascii_digit}
 use Rattle.std.specs.Fmt.{decimal}
@@ -14,7 +14,6 @@ use Rattle.stale_model.specs.declared.Kind.TheVariants.{Read, Write}
 use Rattle.stale_model.specs.declared.store.Ask.{Ask}
 use Rattle.stale_model.specs.declared.store.Ask.TheVariants.{Read as AskRead, Write as AskWrite, Repair}
 use Rattle.stale_model.specs.Texts.{op_text, ask_text, key_text, value_text}
-use Rattle.history_csv.proofs.WrittenNumbers.{value_text-some}
 use Rattle.cert_text.proofs.Numerals.{own}
 
 -- a text that doesn't have this byte
@@ -59,6 +58,10 @@ name_lacks c letter n low high fits =
 
 word_lacks : (c letter : ℕ) → c < 48 → 57 < letter → Lacks c (letter ∷ [])
 word_lacks c letter low high = All-cons (λ b. (b == c) ≡ false) letter [] (ne_eqb letter c (λ e. omega arith)) (All-nil (λ b. (b == c) ≡ false))
+
+-- the name of a value that is there
+pub value_text-some : (n : ℕ) → 1 ≤ n → value_text n ≡ 118 ∷ decimal n
+value_text-some n some = rw (ne_eqb n 0 (λ none. omega arith)) refl
 
 -- the name of a key, of a value and the word of what is done, have no byte below the digits
 pub key_lacks : (c n : ℕ) → c < 48 → n < 2 ^ 64 → Lacks c (key_text n)

@@ -1,7 +1,6 @@
 -- The two files of a recorded run are read back as the run, and judged good.
-use Rattle.std.proofs.Common.{◌≡◌, ◌++◌, ℕ, List, [], ◌∷◌, map, length, Option, Some, None, Result, Ok, refl, sym, ◌∙◌, ap, ap₂, subst, arith}
-use Rattle.std.specs.Prelude.{All, Contains}
-use Rattle.std.specs.List.{join_with_byte}
+use Rattle.std.proofs.Common.{◌≡◌, ◌++◌, List, [], ◌∷◌, map, length, Option, Some, None, Result, Ok, refl, sym, ◌∙◌, ap, ap₂, subst, arith}
+use Rattle.std.specs.Prelude.{All}
 use Rattle.std.proofs.lemmas.List.Elements.{All-contains, All-head, All-tail}
 use Rattle.std.proofs.lemmas.List.Folds.{map_fixed}
 use Rattle.stale_model.specs.declared.store.Settings.{Settings}
@@ -14,15 +13,14 @@ use Rattle.stale_model.specs.Texts.{comma, call_fields, recorded_header, recorde
 use Rattle.run_laws.proofs.Counted.{all_there}
 use Rattle.quorum_client.specs.Plans.{plan_for}
 use Rattle.quorum_client.proofs.WholePlans.{whole-plan_for}
-use Rattle.recorded_laws.specs.Laws.{IsTick}
 use Rattle.trace_check.specs.declared.trace.Trace.{Trace}
 use Rattle.trace_check.specs.declared.reading.TraceFault.{TraceFault}
 use Rattle.trace_check.specs.declared.reading.TraceFault.TheVariants as fault
 use Rattle.trace_check.specs.declared.judging.Part.TheVariants.{Good}
 use Rattle.trace_check.specs.Lines.{most_taken}
 use Rattle.trace_check.specs.Parts.{IsPartOf}
-use Rattle.trace_check.specs.Reading.{or_fault, read_call, read_entry, file_read, calls_read, entries_read, journals_of, with_replies, trace_with, trace_of}
-use Rattle.trace_laws.specs.Laws.{traced, RunsAreTraced, RunsAreGood}
+use Rattle.trace_check.specs.Reading.{or_fault, read_call, read_entry, file_read, calls_read, entries_read, with_replies, trace_with, trace_of}
+use Rattle.trace_laws.specs.Laws.{IsTick, traced, RunsAreTraced, RunsAreGood}
 use Rattle.trace_laws.proofs.Parts.{joined_lacks}
 use Rattle.trace_laws.proofs.FileLines.{EachReads, file_reads}
 use Rattle.trace_laws.proofs.CallLines.{IsReadableCall, with_tickets, call_lacks, call_reads}
@@ -35,9 +33,10 @@ use Rattle.trace_laws.proofs.OfRun.{call_readable, call_again, entries_readable,
 each_call : (s : Settings) → AreSettings s → (before : Option Entry) (es : List Entry) → All (IsReadableCall s) es → EachReads fault.History (read_call s) call_fields with_tickets before es
 each_call s limits before [] each = tt
 each_call s limits before (e ∷ es) each =
-    let is = All-head (IsReadableCall s) e es each in
-    ( joined_lacks 10 comma (call_fields e) refl (call_lacks s limits e is 10 (omega arith))
-    , (call_reads s limits e is, each_call s limits (Some (with_tickets e)) es (All-tail (IsReadableCall s) e es each))
+    let is = All-head (IsReadableCall s) e es each in (
+      joined_lacks 10 comma (call_fields e) refl (call_lacks s limits e is 10 (omega arith)),
+      call_reads s limits e is,
+      each_call s limits (Some (with_tickets e)) es (All-tail (IsReadableCall s) e es each),
     )
 
 -- a history of calls whose lines read

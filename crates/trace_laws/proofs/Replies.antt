@@ -1,5 +1,5 @@
 -- The replies that a call took, found by their tickets.
-use Rattle.std.proofs.Common.{◌≡◌, ◌<◌, ◌≤◌, ◌+◌, ◌-◌, ◌==◌, ℕ, Bool, true, false, cond, List, [], ◌∷◌, ◌++◌, map, length, take, drop, get_or, replicate, Option, Some, None, refl, sym, ◌∙◌, ap, ap₂, inl, inr, arith, eq-eqb}
+use Rattle.std.proofs.Common.{◌≡◌, ◌<◌, ◌+◌, ◌-◌, ◌==◌, ℕ, Bool, true, false, cond, List, [], ◌∷◌, ◌++◌, map, length, drop, replicate, Option, Some, None, refl, sym, ◌∙◌, ap, ap₂, inl, inr, arith, eq-eqb}
 use Rattle.std.specs.Prelude.{All, Contains, find, unwrap_or, option_map}
 use Rattle.std.proofs.lemmas.Bool.{both_ways, ne_eqb, eqb-true}
 use Rattle.std.proofs.lemmas.List.{map-append, length-map, length-drop, length-replicate, get_or-drop, get_or-replicate, take-append-drop, ext_get_or}
