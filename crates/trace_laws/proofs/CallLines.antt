@@ -17,11 +17,11 @@ use Rattle.trace_laws.specs.Laws.{IsTick}
 use Rattle.trace_laws.proofs.Parts.{Lacks, cut_apart, joined_lacks, decimal_lacks, key_lacks, value_lacks, op_lacks}
 use Rattle.trace_laws.proofs.Fields.{number_reads, tick_reads, key_reads, value_reads, kind_reads, tickets_lack, tickets_read}
 
--- a client makes no more calls than all clients together
-pub few_calls : (s : Settings) → AreSettings s → s.calls ≤ 100000
-few_calls s limits =
+-- the number of a call fits a word
+pub seq_fits : (s : Settings) (n : ℕ) → AreSettings s → n ≤ s.calls → n < 2 ^ 64
+seq_fits s n limits low =
     let (some, few) = limits.calls in
-    let least : 1 * s.calls ≤ s.clients * s.calls = mul-le 1 s.calls s.clients s.calls limits.clients.0 (omega arith) in
+    let most : 1 * s.calls ≤ s.clients * s.calls = mul-le 1 s.calls s.clients s.calls limits.clients.0 (omega arith) in
     omega arith
 
 -- a call whose line reads
@@ -53,7 +53,7 @@ module _ (s : Settings) (limits : AreSettings s) (e : Entry) (is : IsReadableCal
   key_low = let most = limits.keys in let low = is.key in omega arith
 
   seq_low : e.seq < 2 ^ 64
-  seq_low = let most = few_calls s limits in let low = is.seq in omega arith
+  seq_low = seq_fits s e.seq limits is.seq.1
 
   -- no field of the line has a byte below the digits
   pub call_lacks : (c : ℕ) → c < 48 → All (Lacks c) (call_fields e)

@@ -16,7 +16,7 @@ use Rattle.trace_laws.specs.Laws.{IsTick}
 use Rattle.trace_laws.proofs.Parts.{Lacks, cut_apart, joined_lacks, decimal_lacks, key_lacks, value_lacks, ask_lacks}
 use Rattle.trace_laws.proofs.Fields.{number_reads, tick_reads, key_reads, reply_reads}
 use Rattle.trace_laws.proofs.FileLines.{EachReads}
-use Rattle.trace_laws.proofs.CallLines.{few_calls}
+use Rattle.trace_laws.proofs.CallLines.{seq_fits}
 
 -- an entry whose line reads
 pub record IsReadableEntry (s : Settings) (j : JournalEntry) : Type 0 where
@@ -54,7 +54,7 @@ module _ (s : Settings) (limits : AreSettings s) where
     key_low = let most = limits.keys in let low = is.key in omega arith
 
     seq_low : j.request.seq < 2 ^ 64
-    seq_low = let most = few_calls s limits in let low = is.seq in omega arith
+    seq_low = seq_fits s j.request.seq limits is.seq.1
 
     -- no field of the line has a byte below the digits
     entry_lacks : (c : ℕ) → c < 48 → All (Lacks c) (entry_fields j)

@@ -20,7 +20,7 @@ use Rattle.cert_text.specs.Numbers.{is_numeral}
 use Rattle.cert_text.proofs.Numerals.{number_of-decimal}
 use Rattle.trace_check.specs.Lines.{tick_limit, value_limit, most_taken, number_between, tick_of, key_of, named_value, value_or_empty, value_of, kind_of, ask_of, ticks_of, tickets_of}
 use Rattle.trace_laws.specs.Laws.{IsTick}
-use Rattle.trace_laws.proofs.Parts.{Lacks, cut_apart, decimal_lacks, value_text-some}
+use Rattle.trace_laws.proofs.Parts.{Lacks, cut_apart, decimal_lacks, named_value_text}
 
 read_so : (a b : Bool) (v n : ℕ) → cond (a && b) (Some v) None ≡ Some n → (a ≡ true) × (v ≡ n)
 read_so true true v n e = (refl, cc)
@@ -53,11 +53,12 @@ named_reads : (n : ℕ) → 1 ≤ n → n < value_limit → named_value (118 ∷
 named_reads n some low = number_reads 1 value_limit n some low (omega arith)
 
 some_reads : (n : ℕ) → 1 ≤ n → n < value_limit → named_value (value_text n) ≡ Some n
-some_reads n some low = ap named_value (value_text-some n some) ∙ named_reads n some low
+some_reads zero some low = absurd (omega arith)
+some_reads (suc n) some low = ap named_value (named_value_text n) ∙ named_reads (suc n) some low
 
 any_reads : (n : ℕ) → n < value_limit → value_or_empty (value_text n) ≡ Some n
 any_reads zero low = refl
-any_reads (suc n) low = ap value_or_empty (value_text-some (suc n) (omega arith)) ∙ named_reads (suc n) (omega arith) low
+any_reads (suc n) low = ap value_or_empty (named_value_text n) ∙ named_reads (suc n) (omega arith) low
 
 -- the value of a call
 pub value_reads : (kind : Kind) (n : ℕ) → n < value_limit → (kind ≡ Write → 1 ≤ n) → value_of (op_text kind) (value_text n) ≡ Some n

@@ -1,10 +1,10 @@
 -- Texts that are joined, and cut apart again.
-use Rattle.std.proofs.Common.{◌≡◌, ◌⊎◌, ◌<◌, ◌≤◌, ◌^◌, ◌==◌, ℕ, zero, suc, true, false, List, [], ◌∷◌, refl, ◌∙◌, ap, inl, inr, arith}
+use Rattle.std.proofs.Common.{◌≡◌, ◌⊎◌, ◌<◌, ◌^◌, ◌==◌, ℕ, zero, suc, true, false, List, [], ◌∷◌, refl, ◌∙◌, ap, inl, inr, arith}
 use Rattle.std.specs.Prelude.{All}
 use Rattle.std.specs.Char.{is_ascii_digit}
 use Rattle.std.specs.Fmt.{decimal}
 use Rattle.std.specs.List.{list_all, slice_split, join_with_byte}
-use Rattle.std.proofs.lemmas.Bool.{and_parts, eq-eqb, ne_eqb}
+use Rattle.std.proofs.lemmas.Bool.{and_parts, eq-eqb, ne_eqb, cond-false}
 use Rattle.std.proofs.lemmas.Bool.Decides.{nat_tests}
 use Rattle.std.proofs.lemmas.Fmt.{digits_decimal}
 use Rattle.std.proofs.lemmas.List.Elements.{All-nil, All-cons, All-head, All-tail, All-append}
@@ -60,8 +60,8 @@ word_lacks : (c letter : ℕ) → c < 48 → 57 < letter → Lacks c (letter ∷
 word_lacks c letter low high = All-cons (λ b. (b == c) ≡ false) letter [] (ne_eqb letter c (λ e. omega arith)) (All-nil (λ b. (b == c) ≡ false))
 
 -- the name of a value that is there
-pub value_text-some : (n : ℕ) → 1 ≤ n → value_text n ≡ 118 ∷ decimal n
-value_text-some n some = rw (ne_eqb n 0 (λ none. omega arith)) refl
+pub named_value_text : (n : ℕ) → value_text (suc n) ≡ 118 ∷ decimal (suc n)
+named_value_text n = cond-false (suc n == 0) [] (118 ∷ decimal (suc n)) (ne_eqb (suc n) 0 (λ none. omega arith))
 
 -- the name of a key, of a value and the word of what is done, have no byte below the digits
 pub key_lacks : (c n : ℕ) → c < 48 → n < 2 ^ 64 → Lacks c (key_text n)
@@ -69,7 +69,7 @@ key_lacks c n low fits = name_lacks c 107 n low (omega arith) fits
 
 pub value_lacks : (c n : ℕ) → c < 48 → n < 2 ^ 64 → Lacks c (value_text n)
 value_lacks c zero low fits = All-nil (λ b. (b == c) ≡ false)
-value_lacks c (suc n) low fits = rw (value_text-some (suc n) (omega arith)) (name_lacks c 118 (suc n) low (omega arith) fits)
+value_lacks c (suc n) low fits = rw (named_value_text n) (name_lacks c 118 (suc n) low (omega arith) fits)
 
 pub op_lacks : (c : ℕ) (kind : Kind) → c < 48 → Lacks c (op_text kind)
 op_lacks c Read low = word_lacks c 114 low (omega arith)
