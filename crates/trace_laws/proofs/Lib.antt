@@ -1,0 +1,10 @@
+pub mod Parts
+pub mod Fields
+pub mod FileLines
+pub mod CallLines
+pub mod EntryLines
+pub mod Replies
+pub mod Journals
+pub mod Pairs
+pub mod OfRun
+pub mod ReadBack
