@@ -6,16 +6,16 @@ use Rattle.std.specs.List.{join_with_byte}
 use Rattle.std.proofs.lemmas.Bool.{ne_eqb}
 use Rattle.std.proofs.lemmas.List.Elements.{All-from_recursion}
 use Rattle.std.proofs.lemmas.Nat.{mul-le}
-use Rattle.stale_model.specs.declared.Kind.TheVariants.{Write}
+use Rattle.stale_model.specs.declared.Kind.TheVariants.{Read, Write}
 use Rattle.stale_model.specs.declared.store.Settings.{Settings}
 use Rattle.stale_model.specs.declared.store.Entry.{Entry}
 use Rattle.stale_model.specs.Settings.{AreSettings}
 use Rattle.stale_model.specs.Calls.{taken_by}
 use Rattle.stale_model.specs.Texts.{comma, semicolon, op_text, key_text, value_text, took_text, call_fields}
-use Rattle.trace_check.specs.Lines.{value_limit, most_taken, split_at, took_at, call_of}
+use Rattle.trace_check.specs.Lines.{value_limit, most_taken, split_at, took_at, kind_of, call_of}
 use Rattle.trace_laws.specs.Laws.{IsTick}
 use Rattle.trace_laws.proofs.Parts.{Lacks, cut_apart, joined_lacks, decimal_lacks, key_lacks, value_lacks, op_lacks}
-use Rattle.trace_laws.proofs.Fields.{number_reads, tick_reads, key_reads, value_reads, kind_reads, tickets_lack, tickets_read}
+use Rattle.trace_laws.proofs.Fields.{number_reads, tick_reads, key_reads, value_reads, tickets_lack, tickets_read}
 
 -- the number of a call fits a word
 pub seq_fits : (s : Settings) (n : ℕ) → AreSettings s → n ≤ s.calls → n < 2 ^ 64
@@ -91,7 +91,7 @@ module _ (s : Settings) (limits : AreSettings s) (e : Entry) (is : IsReadableCal
   fields_read =
       let low = is.seq in
       let client = number_reads 0 s.clients e.client (omega arith) is.client client_low in
-      let kind = kind_reads e.kind in
+      let kind : kind_of (op_text e.kind) ≡ Some e.kind = elim e.kind as (λ k. kind_of (op_text k) ≡ Some k) [ Read ↦ refl | Write ↦ refl ] in
       let key = key_reads s.keys e.key is.key key_low in
       let value = value_reads e.kind e.value is.value is.filled in
       let start = tick_reads e.start is.start in

@@ -18,7 +18,7 @@ use Rattle.stale_model.specs.Journals.{Pair, changes, answer_to}
 use Rattle.stale_model.specs.Texts.{semicolon, op_text, ask_text, key_text, value_text}
 use Rattle.cert_text.specs.Numbers.{is_numeral}
 use Rattle.cert_text.proofs.Numerals.{number_of-decimal}
-use Rattle.trace_check.specs.Lines.{tick_limit, value_limit, most_taken, number_between, tick_of, key_of, named_value, value_or_empty, value_of, kind_of, ask_of, ticks_of, tickets_of}
+use Rattle.trace_check.specs.Lines.{tick_limit, value_limit, most_taken, number_between, tick_of, key_of, named_value, value_or_empty, value_of, ask_of, ticks_of, tickets_of}
 use Rattle.trace_laws.specs.Laws.{IsTick}
 use Rattle.trace_laws.proofs.Parts.{Lacks, cut_apart, decimal_lacks, named_value_text}
 
@@ -70,11 +70,6 @@ pub reply_reads : (ask : Ask) (n : ℕ) → n < value_limit → (changes ask ≡
 reply_reads AskRead n low filled = any_reads n low
 reply_reads (AskWrite value) n low filled = some_reads n (filled refl) low
 reply_reads (Repair stamp value) n low filled = some_reads n (filled refl) low
-
--- the word of a kind
-pub kind_reads : (kind : Kind) → kind_of (op_text kind) ≡ Some kind
-kind_reads Read = refl
-kind_reads Write = refl
 
 -- what a request asks, where the reply has its pair
 pub ask_reads : (js : List JournalEntry) (q : Request) (ask : Ask) (pair : Pair) → pair ≡ answer_to js q ask → ask_of (ask_text ask) pair.value pair.stamp ≡ Some ask

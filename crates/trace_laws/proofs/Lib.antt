@@ -8,3 +8,4 @@ pub mod Journals
 pub mod Pairs
 pub mod OfRun
 pub mod ReadBack
+pub mod OneAnswer

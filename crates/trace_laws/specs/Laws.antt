@@ -1,6 +1,7 @@
--- Laws of the two files of a recorded run: they are read back as the run, and judged good.
+-- Laws of the two files of a recorded run: they are read back as the run, and judged good; and a trace has one answer.
 use Rattle.std.specs.Prelude.{◌≡◌, ℕ, ◌<◌, ◌≤◌, List, length, Ok, All}
 use Rattle.stale_model.specs.declared.store.Settings.{Settings}
+use Rattle.stale_model.specs.declared.store.Plan.{Plan}
 use Rattle.stale_model.specs.declared.store.JournalEntry.{JournalEntry}
 use Rattle.stale_model.specs.declared.store.Entry.{Entry}
 use Rattle.stale_model.specs.Settings.{AreSettings}
@@ -8,6 +9,7 @@ use Rattle.stale_model.specs.RecordedRuns.{tickets_of, IsRecordedRun}
 use Rattle.stale_model.specs.Texts.{recorded_text, journal_text}
 use Rattle.quorum_client.specs.Plans.{plan_for}
 use Rattle.trace_check.specs.declared.trace.Trace.{Trace}
+use Rattle.trace_check.specs.declared.judging.Part.{Part}
 use Rattle.trace_check.specs.declared.judging.Part.TheVariants.{Good}
 use Rattle.trace_check.specs.Lines.{tick_limit, most_taken}
 use Rattle.trace_check.specs.Reading.{trace_of}
@@ -36,3 +38,8 @@ RunsAreTraced = OfEachRun (λ settings entries journals. trace_of settings (reco
 abbrev pub RunsAreGood : Type 0
 RunsAreGood = OfEachRun (λ settings entries journals. (trace : Trace)
     → trace_of settings (recorded_text entries) (journal_text journals) ≡ Ok trace → IsPartOf settings (plan_for settings) trace Good)
+
+-- a trace has one answer: where it is good no part fails, and of its parts one is the first that fails
+abbrev pub AnswersAreOne : Type 0
+AnswersAreOne = (settings : Settings) (plan : Plan) (trace : Trace) (a b : Part)
+    → IsPartOf settings plan trace a → IsPartOf settings plan trace b → a ≡ b
