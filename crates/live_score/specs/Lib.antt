@@ -1,2 +1,5 @@
 pub mod Feeding
 pub mod Invariant
+pub mod Places
+pub mod Trees
+pub mod Scores

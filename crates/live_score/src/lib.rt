@@ -2,5 +2,6 @@
 #![tactic(auto)]
 
 mod live;
+mod places;
 
 pub use live::{Fed, Live};
