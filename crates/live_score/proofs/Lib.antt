@@ -1,2 +1,5 @@
-pub mod Scores
 pub mod Existence
+pub mod Raising
+pub mod RowsGrow
+pub mod Scores
+pub mod Stands

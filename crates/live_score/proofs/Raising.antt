@@ -1,6 +1,6 @@
 -- The score after the numbers of one place changed.
 use Rattle.std.proofs.Common.{◌≡◌, ◌≢◌, ◌⊎◌, ◌↔◌, ℕ, ◌-◌, ◌<◌, ◌≤◌, max, min, cond, true, false, List, Option, Some, None, length, set, get_or, refl, sym, ◌∙◌, ap, inl, inr, subst, arith}
-use Rattle.std.specs.Prelude.{All, nat_lt, option_map}
+use Rattle.std.specs.Prelude.{All, nat_lt}
 use Rattle.std.proofs.lemmas.Bool.{cases_lt, lt-ltb, le-ltb, cases_eq}
 use Rattle.std.proofs.lemmas.Bool.Decides.{nat_tests}
 use Rattle.std.proofs.lemmas.List.Elements.{All-contains, All-from_get_or}
@@ -9,37 +9,37 @@ use Rattle.std.proofs.lemmas.List.{length-set}
 use Rattle.stale_model.specs.Orders.{StandsAt}
 use Rattle.stale_model.proofs.Places.{same_at}
 use Rattle.live_score.specs.declared.places.Place.{Place}
-use Rattle.live_score.specs.Places.{score, there, unbounded}
-use Rattle.live_score.specs.Placing.{IsVacant, IsSameWrite, IsRaised, IsGreatestScore, IsEarlyPlace, IsGreatestWithoutEarly, IsScoreOfPlaces, vacated, score_after}
+use Rattle.live_score.specs.Places.{score, side, unbounded}
+use Rattle.live_score.specs.Placing.{IsVacant, IsSameWrite, IsRaised, IsGreatestOfPlaces, IsEarlyPlace, IsGreatestWithoutEarly, IsScoreOfPlaces, vacated, score_after}
 use Rattle.live_score.proofs.Stands.{after_write, written, unwritten}
 
 -- scores of two are the same either way round
 pub score_flips : (a b : Place) → score a b ≡ score b a
 score_flips a b = omega arith
 
-there_vacant : (c x : Place) → IsVacant x → there c x ≡ 0
-there_vacant c x v = let w = v.write in let s = v.reads in grind (arith, nat_tests)
+side_to_vacant : (c x : Place) → IsVacant x → side c x ≡ 0
+side_to_vacant c x v = let w = v.write in let s = v.reads in grind (arith, nat_tests)
 
 -- a vacant place has no score with any
 pub score_vacant : (c x : Place) → IsVacant x → score c x ≡ 0
-score_vacant c x v = let e = there_vacant c x v in omega arith
+score_vacant c x v = let e = side_to_vacant c x v in omega arith
 
-there_raised : (c old new : Place) → IsSameWrite old new → there c old ≤ there c new
-there_raised c old new same = let f = same.f in let w = same.w in let s = same.s in grind (arith, nat_tests)
+side_to_raised : (c old new : Place) → IsSameWrite old new → side c old ≤ side c new
+side_to_raised c old new same = let f = same.f in let w = same.w in let s = same.s in grind (arith, nat_tests)
 
-from_raised : (c old new : Place) → IsSameWrite old new → there old c ≡ there new c
-from_raised c old new same = ap (λ (f : ℕ). cond (nat_lt f c.w) unbounded (min unbounded (c.s - f))) same.f
+side_from_raised : (c old new : Place) → IsSameWrite old new → side old c ≡ side new c
+side_from_raised c old new same = ap (λ (f : ℕ). cond (nat_lt f c.w) unbounded (min unbounded (c.s - f))) same.f
 
 -- no score falls where s rises
 pub score_raised : (old new c : Place) → IsRaised old new → score old c ≤ score new c
 score_raised old new c (inl vacant) = let e = score_flips old c ∙ score_vacant c old vacant in omega arith
-score_raised old new c (inr same) = let e = from_raised c old new same in let r = there_raised c old new same in omega arith
+score_raised old new c (inr same) = let e = side_from_raised c old new same in let r = side_to_raised c old new same in omega arith
 
-score_after_early : (score : Option ℕ) (new : Place) (asked : ℕ) → new.f < new.w → score_after score new asked ≡ None
-score_after_early score new asked less = rw (lt-ltb new.f new.w less) refl
+score_after_early : (d : ℕ) (new : Place) (asked : ℕ) → new.f < new.w → score_after (Some d) new asked ≡ None
+score_after_early d new asked less = rw (lt-ltb new.f new.w less) refl
 
-score_after_late : (score : Option ℕ) (new : Place) (asked : ℕ) → new.w ≤ new.f → score_after score new asked ≡ option_map (max asked) score
-score_after_late score new asked le = rw (le-ltb new.w new.f le) refl
+score_after_late : (d : ℕ) (new : Place) (asked : ℕ) → new.w ≤ new.f → score_after (Some d) new asked ≡ Some (max d asked)
+score_after_late d new asked le = rw (le-ltb new.f new.w le) refl
 
 -- what holds of all holds of what stands at a place
 pub all_at : {X : Type 0} (P : X → Type 0) (xs : List X) (i : ℕ) (x : X) → All P xs → StandsAt xs i x → P x
@@ -66,7 +66,7 @@ module _ (places : List Place) (k : ℕ) (old new : Place) (here : StandsAt plac
     | inr (other, before) ↦ each j b other before
   ]))
 
-  greatest_bounds : (d bound : ℕ) → IsGreatestScore places d → max asked d ≤ bound → (i j : ℕ) (a b : Place) → StandsAt (set places k new) i a → StandsAt (set places k new) j b → i ≢ j → score a b ≤ bound
+  greatest_bounds : (d bound : ℕ) → IsGreatestOfPlaces places d → max d asked ≤ bound → (i j : ℕ) (a b : Place) → StandsAt (set places k new) i a → StandsAt (set places k new) j b → i ≢ j → score a b ≤ bound
   greatest_bounds d bound greatest le i j a b ati atj apart = elim (after_write places k new i a within ati) [
     | inl (i_is, a_is) ↦ elim (after_write places k new j b within atj) [
         | inl (j_is, b_is) ↦ absurd (apart (i_is ∙ sym j_is))
@@ -81,7 +81,7 @@ module _ (places : List Place) (k : ℕ) (old new : Place) (here : StandsAt plac
       ]
   ]
 
-  greatest_from : (d bound : ℕ) → IsGreatestScore places d → ((i j : ℕ) (a b : Place) → StandsAt (set places k new) i a → StandsAt (set places k new) j b → i ≢ j → score a b ≤ bound) → max asked d ≤ bound
+  greatest_from : (d bound : ℕ) → IsGreatestOfPlaces places d → ((i j : ℕ) (a b : Place) → StandsAt (set places k new) i a → StandsAt (set places k new) j b → i ≢ j → score a b ≤ bound) → max d asked ≤ bound
   greatest_from d bound greatest each =
       let new_at = written places k new within in
       let asked_le : asked ≤ bound = asked_from bound (λ j b other at. each k j new b new_at (unwritten places k new j b other at) (λ e. other (sym e))) in
@@ -129,18 +129,15 @@ module _ (places : List Place) (k : ℕ) (old new : Place) (here : StandsAt plac
 
   -- the score that the places give is kept
   pub score_grows : (score : Option ℕ) → IsScoreOfPlaces places score → IsScoreOfPlaces (set places k new) (score_after score new asked)
-  score_grows None early = elim (cases_lt new.f new.w) [
-    | inl less ↦ subst (λ (s : Option ℕ). IsScoreOfPlaces (set places k new) s) (sym (score_after_early None new asked less)) (early_stays early)
-    | inr le ↦ subst (λ (s : Option ℕ). IsScoreOfPlaces (set places k new) s) (sym (score_after_late None new asked le)) (early_stays early)
-  ]
+  score_grows None early = early_stays early
   score_grows (Some d) h = elim (cases_lt new.f new.w) [
     | inl less ↦
         let early : IsEarlyPlace (set places k new) = record { at = k; place = new; stands = written places k new within; early = less } in
-        subst (λ (s : Option ℕ). IsScoreOfPlaces (set places k new) s) (sym (score_after_early (Some d) new asked less)) early
+        subst (λ (s : Option ℕ). IsScoreOfPlaces (set places k new) s) (sym (score_after_early d new asked less)) early
     | inr le ↦
-        let best : IsGreatestWithoutEarly (set places k new) (max asked d) = record {
+        let best : IsGreatestWithoutEarly (set places k new) (max d asked) = record {
           no_early = late_stays le h.no_early;
           greatest = λ bound. (greatest_bounds d bound h.greatest, greatest_from d bound h.greatest);
         } in
-        subst (λ (s : Option ℕ). IsScoreOfPlaces (set places k new) s) (sym (score_after_late (Some d) new asked le)) best
+        subst (λ (s : Option ℕ). IsScoreOfPlaces (set places k new) s) (sym (score_after_late d new asked le)) best
   ]

@@ -1,5 +1,5 @@
 -- Serves the code alone: how rows and places belong together, and how places give the score.
-use Rattle.std.specs.Prelude.{◌≡◌, ◌≢◌, ◌⊎◌, ◌↔◌, ℕ, ◌≤◌, ◌<◌, max, nat_lt, if◌then◌else◌, List, length, Option, Some, None, is_none, option_map}
+use Rattle.std.specs.Prelude.{◌≡◌, ◌≢◌, ◌⊎◌, ◌↔◌, ℕ, ◌≤◌, ◌<◌, max, nat_lt, if◌then◌else◌, List, Option, Some, None}
 use Rattle.stale_model.specs.Orders.{StandsAt}
 use Rattle.live_score.specs.declared.places.Place.{Place}
 use Rattle.live_score.specs.declared.rows.Row.{Row}
@@ -31,8 +31,8 @@ pub record ArePlaced (rows : List Row) (taken : ℕ) (places : List Place) : Typ
   pub rest : (at : ℕ) (place : Place) → taken ≤ at → StandsAt places at place → IsVacant place
 
 -- d is the greatest score of two places
-abbrev pub IsGreatestScore : List Place → ℕ → Type 0
-IsGreatestScore places d = (bound : ℕ) → (d ≤ bound) ↔ ((i j : ℕ) (a b : Place) → StandsAt places i a → StandsAt places j b → i ≢ j → score a b ≤ bound)
+abbrev pub IsGreatestOfPlaces : List Place → ℕ → Type 0
+IsGreatestOfPlaces places d = (bound : ℕ) → (d ≤ bound) ↔ ((i j : ℕ) (a b : Place) → StandsAt places i a → StandsAt places j b → i ≢ j → score a b ≤ bound)
 
 -- some read that counts is early
 pub record IsEarlyPlace (places : List Place) : Type 0 where
@@ -44,7 +44,7 @@ pub record IsEarlyPlace (places : List Place) : Type 0 where
 -- no read that counts is early, and d is the greatest score
 pub record IsGreatestWithoutEarly (places : List Place) (d : ℕ) : Type 0 where
   pub no_early : (at : ℕ) (place : Place) → StandsAt places at place → place.w ≤ place.f
-  pub greatest : IsGreatestScore places d
+  pub greatest : IsGreatestOfPlaces places d
 
 -- the score by the places: none where a read that counts is early
 abbrev pub IsScoreOfPlaces : List Place → Option ℕ → Type 0
@@ -66,4 +66,5 @@ vacated place = record place { w = 0; s = 0 }
 
 -- the score after the numbers of a place changed, where its greatest score with the others is `asked`
 abbrev pub score_after : Option ℕ → Place → ℕ → Option ℕ
-score_after score place asked = if nat_lt place.f place.w then None else option_map (max asked) score
+score_after None place asked = None
+score_after (Some d) place asked = if nat_lt place.f place.w then None else Some (max d asked)

@@ -1,5 +1,5 @@
 -- Serves the code alone: what is kept of each value, and how an operation changes it.
-use Rattle.std.specs.Prelude.{◌≡◌, ◌⊎◌, ℕ, ◌+◌, ◌<◌, ◌≤◌, ◌==◌, max, List, length, count_by, Option, Some, None, unwrap_or}
+use Rattle.std.specs.Prelude.{◌≡◌, ◌⊎◌, ℕ, ◌+◌, ◌≤◌, ◌==◌, max, List, count_by, Option, Some, None}
 use Rattle.stale_model.specs.declared.Op.{Op}
 use Rattle.stale_model.specs.declared.Kind.{Kind}
 use Rattle.stale_model.specs.declared.Kind.TheVariants.{Read, Write}
@@ -53,12 +53,13 @@ abbrev pub first_finish : Option ℕ → ℕ → ℕ → ℕ
 first_finish None f finish = finish
 first_finish (Some at) f finish = f
 
--- a row with one more operation, whatever its kind; next is the place of a value that has none
+-- a row with one more operation, whatever its kind, of a value at this place
 abbrev pub placed_row : Row → Op → ℕ → Row
-placed_row row op next = record row {
-  at = Some (unwrap_or row.at next);
+placed_row row op at = record {
+  at = Some at;
+  write = row.write;
   place = record row.place { f = first_finish row.at row.place.f (latest_finish op) };
-  count = row.count + 1
+  count = row.count + 1;
 }
 
 -- what an operation of this kind adds to a row besides
@@ -66,9 +67,14 @@ abbrev pub row_with : Kind → Row → Op → Row
 row_with Read row op = record row { place = record row.place { s = max row.place.s (earliest_start op) } }
 row_with Write row op = record row { write = Some op.rec; place = record row.place { w = earliest_start op } }
 
--- the row of an operation's value after it
+-- the row of an operation's value after it, at this place
 abbrev pub row_after : Row → Op → ℕ → Row
-row_after row op next = row_with op.kind (placed_row row op next) op
+row_after row op at = row_with op.kind (placed_row row op at) op
+
+-- how many places are taken after an operation of a value with this place
+abbrev pub taken_after : Option ℕ → ℕ → ℕ
+taken_after None taken = taken + 1
+taken_after (Some at) taken = taken
 
 -- what stands at the place of a value: its numbers once they count, else its f alone
 abbrev pub shown : Option ℕ → Place → Place

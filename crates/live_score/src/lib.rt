@@ -3,5 +3,6 @@
 
 mod live;
 mod places;
+mod rows;
 
 pub use live::{Fed, Live};

@@ -1,9 +1,9 @@
 //! What is kept of each value.
 
-ghost use Rattle.std.specs.Prelude.{◌≡◌, ◌+◌, ◌<◌, ◌^◌, ℕ};
-ghost use Rattle.stale_model.specs.Operations.{latest_finish};
+ghost use Rattle.std.specs.Prelude.{◌≡◌, ◌+◌, ◌<◌, ◌≤◌, ◌^◌};
+ghost use Rattle.stale_model.specs.Operations.{IsWrite, latest_finish};
 ghost use Rattle.live_score.specs.Rows.{row_after, shown};
-ghost use Rattle.live_score.specs.Answers.{answer_of};
+ghost use Rattle.live_score.specs.Answers.{answer_of, waiting_after};
 
 use crate::live::Fed;
 use crate::places::Place;
@@ -50,20 +50,32 @@ impl Row {
         }
     }
 
-    /// The row with one more operation of the value, which takes the place `next` if it has none.
-    pub fn with_operation(self, op: &Op, next: u32) -> Row
+    /// How many reads wait after an operation of the value that is no duplicate, where so many did before.
+    pub fn waiting_after(&self, op: &Op, waiting: u32) -> u32
+        requires one_more { waiting + 1 < 2 ^ 32 }
+        requires of_them { IsWrite op.now → self.now.count ≤ waiting }
+        ensures { result ≡ waiting_after op.now.kind self.now.write waiting self.now.count }
+    {
+        match (op.kind, self.write) {
+            (Kind::Read, None) => waiting + 1,
+            (Kind::Read, Some(_)) => waiting,
+            (Kind::Write, _) => waiting - self.count,
+        }
+    }
+
+    /// The row with one more operation of the value, whose place has this number.
+    pub fn with_operation(self, op: &Op, at: u32) -> Row
         requires finish { latest_finish op.now < 2 ^ 64 }
         requires count { self.count + 1 < 2 ^ 32 }
-        ensures { result ≡ row_after self op.now next }
+        ensures { result ≡ row_after self op.now at }
     {
         let f = match self.at {
             Some(_) => self.place.f,
             None => op.latest_finish(),
         };
-        let at = Some(self.at.unwrap_or(next));
         let place = Place { f, ..self.place };
         let row = Row {
-            at,
+            at: Some(at),
             place,
             count: self.count + 1,
             ..self
