@@ -5,11 +5,11 @@ use Rattle.std.proofs.lemmas.Bool.{cases_lt, lt-ltb, le-ltb, cases_eq}
 use Rattle.std.proofs.lemmas.Bool.Decides.{nat_tests}
 use Rattle.std.proofs.lemmas.List.Elements.{All-contains, All-from_get_or}
 use Rattle.std.proofs.lemmas.Option.{slice_get_within, get_or_from_slice_get, slice_get-get_or}
-use Rattle.std.proofs.lemmas.List.{length-set}
+use Rattle.std.proofs.lemmas.List.{length-set, set-set}
 use Rattle.stale_model.specs.Orders.{StandsAt}
 use Rattle.stale_model.proofs.Places.{same_at}
 use Rattle.live_score.specs.declared.places.Place.{Place}
-use Rattle.live_score.specs.Places.{score, side, unbounded}
+use Rattle.live_score.specs.Places.{score, side, unbounded, AreRising}
 use Rattle.live_score.specs.Placing.{IsVacant, IsSameWrite, IsRaised, IsGreatestOfPlaces, IsEarlyPlace, IsGreatestWithoutEarly, IsScoreOfPlaces, vacated, score_after}
 use Rattle.live_score.proofs.Stands.{after_write, written, unwritten}
 
@@ -141,3 +141,17 @@ module _ (places : List Place) (k : ℕ) (old new : Place) (here : StandsAt plac
         } in
         subst (λ (s : Option ℕ). IsScoreOfPlaces (set places k new) s) (sym (score_after_late d new asked le)) best
   ]
+
+-- filling a place that was vacated is one write
+pub vacated_filled : (places vacant filled : List Place) (k : ℕ) (new : Place) → vacant ≡ set places k (vacated new) → filled ≡ set vacant k new → filled ≡ set places k new
+vacated_filled places vacant filled k new vacant_is filled_is = filled_is ∙ ap (λ (l : List Place). set l k new) vacant_is ∙ set-set places k (vacated new) new
+
+-- the same where the place is vacant while its greatest score is asked for
+pub score_raises : (places vacant filled : List Place) (k asked : ℕ) (new : Place) (before result : Option ℕ) → vacant ≡ set places k (vacated new) → filled ≡ set vacant k new
+    → (AreRising vacant → (bound : ℕ) → (asked ≤ bound) ↔ All (λ x. score new x ≤ bound) vacant) → result ≡ score_after before new asked
+    → (old : Place) → StandsAt places k old → IsRaised old new → AreRising (set places k (vacated new)) → IsScoreOfPlaces places before → IsScoreOfPlaces filled result
+score_raises places vacant filled k asked new before result vacant_is filled_is is result_is old here raised rising h =
+    let asked_is : (bound : ℕ) → (asked ≤ bound) ↔ All (λ x. score new x ≤ bound) (set places k (vacated new)) =
+        subst (λ (l : List Place). (bound : ℕ) → (asked ≤ bound) ↔ All (λ x. score new x ≤ bound) l) vacant_is (is (subst AreRising (sym vacant_is) rising)) in
+    subst (λ (l : List Place). IsScoreOfPlaces l result) (sym (vacated_filled places vacant filled k new vacant_is filled_is))
+    (subst (λ (r : Option ℕ). IsScoreOfPlaces (set places k new) r) (sym result_is) (score_grows places k old new here raised asked asked_is before h))

@@ -3,7 +3,7 @@ use Rattle.std.specs.Prelude.{◌≡◌, ◌≢◌, ◌⊎◌, ◌↔◌, ℕ, �
 use Rattle.stale_model.specs.Orders.{StandsAt}
 use Rattle.live_score.specs.declared.places.Place.{Place}
 use Rattle.live_score.specs.declared.rows.Row.{Row}
-use Rattle.live_score.specs.Places.{score}
+use Rattle.live_score.specs.Places.{score, unused}
 use Rattle.live_score.specs.Rows.{shown}
 
 -- a place without start of a write or reads has no score with any
@@ -23,12 +23,12 @@ pub record IsOfRow (rows : List Row) (at : ℕ) : Type 0 where
   pub stands : StandsAt rows value row
   pub at_is : row.at ≡ Some at
 
--- each row shows at its place, places of values differ, those taken are of values, and the others are vacant and behind all
+-- each row shows at its place, places of values differ, those taken are of values, and the others unused
 pub record ArePlaced (rows : List Row) (taken : ℕ) (places : List Place) : Type 0 where
   pub shows : (value : ℕ) (row : Row) → StandsAt rows value row → IsShown places taken row row.at
   pub apart : (v u at : ℕ) (row other : Row) → StandsAt rows v row → StandsAt rows u other → row.at ≡ Some at → other.at ≡ Some at → v ≡ u
   pub owned : (at : ℕ) → at < taken → IsOfRow rows at
-  pub rest : (at : ℕ) (place : Place) → taken ≤ at → StandsAt places at place → IsVacant place
+  pub rest : (at : ℕ) (place : Place) → taken ≤ at → StandsAt places at place → place ≡ unused
 
 -- d is the greatest score of two places
 abbrev pub IsGreatestOfPlaces : List Place → ℕ → Type 0

@@ -6,7 +6,7 @@ ghost use Rattle.stale_model.specs.Counted.{IsScore, waiting};
 ghost use Rattle.live_score.specs.declared.places.Place.{Place};
 ghost use Rattle.live_score.specs.Feeding.{CanBeFed, IsFedAs, fed_after, nothing_fed};
 ghost use Rattle.live_score.specs.Places.{AreRising};
-ghost use Rattle.live_score.specs.Placing.{IsRaised, IsScoreOfPlaces, vacated};
+ghost use Rattle.live_score.specs.Placing.{IsRaised, IsScoreOfPlaces, score_after, vacated};
 
 use crate::places::{Place, Places};
 use crate::rows::{ABSENT, Row, UNSEEN};
@@ -136,6 +136,13 @@ fn raise(tree: &mut Places, at: usize, place: Place, score: Option<u64>) -> Opti
     tree.put(at, Place { w: 0, s: 0, ..place });
     let asked = tree.greatest_score(&place);
     tree.put(at, place);
+    score_after(score, &place, asked)
+}
+
+// The score after the numbers of a place changed, where this is its greatest score with another now.
+fn score_after(score: Option<u64>, place: &Place, asked: u64) -> Option<u64>
+    ensures { result ≡ score_after score place.now asked }
+{
     match score {
         Some(before) if place.w <= place.f => Some(before.max(asked)),
         _ => None,
