@@ -1,6 +1,9 @@
 pub mod Existence
+pub mod Keeping
+pub mod Counting
 pub mod Raising
 pub mod PlacesGrow
 pub mod RowsGrow
 pub mod Scores
+pub mod Scoring
 pub mod Stands

@@ -22,11 +22,11 @@ pub shown_f : (write : Option ℕ) (place : Place) → (shown write place).f ≡
 shown_f None place = refl
 shown_f (Some rec) place = refl
 
-shown_vacant : (write : Option ℕ) (place : Place) → write ≡ None → IsVacant (shown write place)
+pub shown_vacant : (write : Option ℕ) (place : Place) → write ≡ None → IsVacant (shown write place)
 shown_vacant None place e = record { write = refl; reads = refl }
 shown_vacant (Some rec) place e = absurd (none-some rec (sym e))
 
-shown_counted : (write : Option ℕ) (place : Place) (rec : ℕ) → write ≡ Some rec → shown write place ≡ place
+pub shown_counted : (write : Option ℕ) (place : Place) (rec : ℕ) → write ≡ Some rec → shown write place ≡ place
 shown_counted None place rec e = absurd (none-some rec e)
 shown_counted (Some r) place rec e = refl
 
@@ -186,7 +186,7 @@ rising_grows places k y within rising before behind = rising_from (set places k 
     ]
 ])
 
-finish_of : (ops : List Op) (value f : ℕ) (kept : Option ℕ) (at : ℕ) → kept ≡ Some at → IsFinishKept ops value f kept → IsFinishOf ops value f
+pub finish_of : (ops : List Op) (value f : ℕ) (kept : Option ℕ) (at : ℕ) → kept ≡ Some at → IsFinishKept ops value f kept → IsFinishOf ops value f
 finish_of ops value f None at e h = absurd (none-some at e)
 finish_of ops value f (Some k) at e h = h
 
@@ -237,3 +237,7 @@ raised_there rows taken places placed value at next row op here at_is within fir
       let vacant : IsVacant old = record { write = ap (λ (p : Place). p.w) e; reads = ap (λ (p : Place). p.s) e } in
       (old, stands, inl vacant)
 ]
+
+-- what is shown after an operation has the f of its value
+pub shown_f_after : (row : Row) (op : Op) (at : ℕ) → (shown (row_after row op at).write (row_after row op at).place).f ≡ first_finish row.at row.place.f (latest_finish op)
+shown_f_after row op at = shown_f (row_after row op at).write (row_after row op at).place ∙ row_f row op at

@@ -92,14 +92,9 @@ impl Live {
         if let Fed::Duplicate { .. } = answer {
             return answer;
         }
-        let at = match row.at {
-            Some(at) => at,
-            None => {
-                self.taken += 1;
-                (self.taken - 1) as u32
-            }
-        };
+        let at = row.at.unwrap_or(self.taken as u32);
         let next = row.with_operation(op, at);
+        self.taken = row.taken_after(self.taken);
         self.waiting = row.waiting_after(op, self.waiting);
         self.rows[value] = next;
         self.score = raise(&mut self.tree, at as usize, next.shown(), self.score);

@@ -2,7 +2,7 @@
 
 ghost use Rattle.std.specs.Prelude.{◌≡◌, ◌+◌, ◌<◌, ◌≤◌, ◌^◌};
 ghost use Rattle.stale_model.specs.Operations.{IsWrite, latest_finish};
-ghost use Rattle.live_score.specs.Rows.{row_after, shown};
+ghost use Rattle.live_score.specs.Rows.{row_after, shown, taken_after};
 ghost use Rattle.live_score.specs.Answers.{answer_of, waiting_after};
 
 use crate::live::Fed;
@@ -60,6 +60,17 @@ impl Row {
             (Kind::Read, None) => waiting + 1,
             (Kind::Read, Some(_)) => waiting,
             (Kind::Write, _) => waiting - self.count,
+        }
+    }
+
+    /// How many places are taken after an operation of the value, where so many were before.
+    pub fn taken_after(&self, taken: usize) -> usize
+        requires { taken + 1 < 2 ^ 64 }
+        ensures { result ≡ taken_after self.now.at taken }
+    {
+        match self.at {
+            Some(_) => taken,
+            None => taken + 1,
         }
     }
 
