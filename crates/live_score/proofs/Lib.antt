@@ -1,5 +1,6 @@
 pub mod Existence
 pub mod Keeping
+pub mod Answering
 pub mod Counting
 pub mod Raising
 pub mod PlacesGrow
@@ -7,3 +8,4 @@ pub mod RowsGrow
 pub mod Scores
 pub mod Scoring
 pub mod Stands
+pub mod Starting

@@ -15,7 +15,7 @@ use Rattle.live_score.specs.declared.rows.Row.{Row}
 use Rattle.live_score.specs.Rows.{IsWriteKept, IsFinishOf, IsFinishKept, IsStartKept, IsRowOf, AreRows, first_finish, placed_row, row_with, row_after}
 use Rattle.live_score.proofs.Stands.{after_write}
 
-read_no_write : (a : Op) → IsRead a → IsWrite a → ⊥
+pub read_no_write : (a : Op) → IsRead a → IsWrite a → ⊥
 read_no_write a r w = cc
 
 module _ (ops : List Op) (op : Op) (value : ℕ) where
