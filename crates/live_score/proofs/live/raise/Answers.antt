@@ -1,8 +1,3 @@
-use Rattle.live_score.proofs.Keeping.{kept_score}
-use Rattle.live_score.proofs.Scoring.{score_is_of_places}
-use Rattle.live_score.proofs.Counting.{waiting_grows}
-use Rattle.live_score.proofs.RowsGrow.{rows_grow}
-use Rattle.live_score.proofs.PlacesGrow.{rising_stays}
 use Rattle.live_score.proofs.Raising.{vacated_filled, score_raises}
 use Rattle.live_score.proofs.live.raise.Goals as goal
 
