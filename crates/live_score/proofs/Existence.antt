@@ -1,5 +1,5 @@
 -- Operations have clusters.
-use Rattle.std.proofs.Common.{◌≡◌, ◌⊎◌, ℕ, ◌+◌, ◌<◌, ◌≤◌, ◌==◌, Bool, not, ltb, true, false, List, [], ◌∷◌, length, get_or, map, refl, sym, ◌∙◌, ap, inl, inr, subst, arith, eq-eqb, eqb-true, ltb-false}
+use Rattle.std.proofs.Common.{◌≡◌, ◌⊎◌, ℕ, ◌+◌, ◌<◌, ◌≤◌, ◌==◌, Bool, not, ltb, false, List, [], ◌∷◌, get_or, refl, sym, ◌∙◌, ap, inl, inr, subst, arith, eq-eqb, eqb-true, ltb-false}
 use Rattle.std.specs.Prelude.{Contains, Option, Some, None}
 use Rattle.std.specs.Cmp.{IsStrictWeakOrder, nat_cmp_total}
 use Rattle.std.specs.List.{filter, AllPairs}

@@ -4,7 +4,7 @@ use Rattle.std.specs.Prelude.{◌↔◌, All}
 use Rattle.std.proofs.lemmas.List.{take_more, length-append, get_or_append_left, get_or-append-add}
 use Rattle.std.proofs.lemmas.List.Elements.{All-nil, All-cons, All-head, All-tail, All-weaker, All-from_get_or}
 use Rattle.live_score.specs.declared.places.Place.{Place}
-use Rattle.live_score.specs.Places.{unbounded, side, score, AreRising}
+use Rattle.live_score.specs.Places.{side, score, AreRising}
 use Rattle.live_score.specs.Trees.{join, nothing, top_of, greatest}
 
 max_is_one_way : (m n k : ℕ) → max (max m n) k ≡ max m (max n k)
