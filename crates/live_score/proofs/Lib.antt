@@ -1,9 +1,10 @@
-pub mod Existence
-pub mod Keeping
 pub mod Answering
 pub mod Counting
-pub mod Raising
+pub mod Existence
+pub mod Greatest
+pub mod Keeping
 pub mod PlacesGrow
+pub mod Raising
 pub mod RowsGrow
 pub mod Scores
 pub mod Scoring

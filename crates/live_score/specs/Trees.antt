@@ -37,4 +37,4 @@ IsSummedLeaf leaf = leaf.top ≡ top_of leaf.places.items
 abbrev pub IsSummed : Tree → Type 0
 IsSummed (One leaf) = IsSummedLeaf leaf
 IsSummed (Node' p left size top q right) =
-    (size ≡ length (places_of left)) × (top ≡ top_of (places_of left ++ places_of right)) × IsSummed left × IsSummed right
+    (size ≡ length (places_of left)) × (top ≡ join (top_of (places_of left)) (top_of (places_of right))) × IsSummed left × IsSummed right

@@ -62,8 +62,12 @@ impl Live {
     pub fn prepare(alloc: Global, places: u32, values: u32) -> Result<Live, Memory>
         ensures { IfOk result (λ live. live ≡ nothing_fed places values) }
     {
-        let fed = Vec::with_capacity(alloc, places as usize).map_err(|_| Memory)?;
-        let mut rows = vec![in alloc; UNSEEN; values as usize + 1].map_err(|_| Memory)?;
+        let Ok(fed) = Vec::with_capacity(alloc, places as usize) else {
+            return Err(Memory);
+        };
+        let Ok(mut rows) = vec![in alloc; UNSEEN; values as usize + 1] else {
+            return Err(Memory);
+        };
         rows[0] = ABSENT;
         let mut tree = Places::prepare(alloc, places as usize + 1)?;
         tree.put(0, ABSENT.place);

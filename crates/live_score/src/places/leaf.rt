@@ -27,11 +27,27 @@ pub fn join(a: &Place, b: &Place) -> Place
 }
 
 /// The greatest f, w and s of places.
+#[tactic(auto, using(crate::proofs::Greatest::top_of_more))]
 fn top_of(places: &[Place]) -> Place
     ensures { result ≡ top_of places.now }
 {
-    let nothing = Place { f: 0, w: 0, s: 0 };
-    places.iter().fold(nothing, |top, place| join(&top, place))
+    let mut top = Place { f: 0, w: 0, s: 0 };
+    for place in places {
+        top = join(&top, place);
+    }
+    top
+}
+
+/// The greatest score of a place with others; 0 where there is none.
+#[tactic(auto, using(crate::proofs::Greatest::greatest_more))]
+fn greatest_among(c: &Place, places: &[Place]) -> u64
+    ensures { result ≡ greatest c.now places.now }
+{
+    let mut greatest = 0;
+    for place in places {
+        greatest = c.score(place).max(greatest);
+    }
+    greatest
 }
 
 impl Leaf {
@@ -61,7 +77,6 @@ impl Leaf {
     pub fn greatest_score(&self, c: &Place) -> u64
         ensures { result ≡ greatest c.now self.now.places.items }
     {
-        let scores = self.places.iter().map(|place| c.score(place));
-        scores.max().unwrap_or(0)
+        greatest_among(c, &self.places)
     }
 }
