@@ -168,3 +168,12 @@ module _ (values places : ℕ) where
     score_is = scored_first;
     waiting_is = refl;
   }
+
+-- the same of what the code begins with
+pub kept_first : (values places : ℕ) (fed : List Op) (rows_now : List Row) (unused_now tree_now : List Place) → fed ≡ [] → rows_now ≡ replicate (values + 1) unseen_row → unused_now ≡ replicate (places + 1) unused
+    → tree_now ≡ set unused_now 0 first_place → IsKept values fed (set rows_now 0 absent_row) 1 tree_now (Some 0) 0
+kept_first values places fed rows_now unused_now tree_now fed_is rows_is unused_is tree_is =
+    let tree_first : tree_now ≡ set (replicate (places + 1) unused) 0 first_place = tree_is ∙ ap (λ (l : List Place). set l 0 first_place) unused_is in
+    subst (λ (l : List Op). IsKept values l (set rows_now 0 absent_row) 1 tree_now (Some 0) 0) (sym fed_is)
+    (subst (λ (l : List Row). IsKept values [] (set l 0 absent_row) 1 tree_now (Some 0) 0) (sym rows_is)
+    (subst (λ (l : List Place). IsKept values [] (set (replicate (values + 1) unseen_row) 0 absent_row) 1 l (Some 0) 0) (sym tree_first) (kept_at_first values places)))

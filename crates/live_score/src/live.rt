@@ -1,6 +1,6 @@
 //! The operations that were fed, and their score.
 
-ghost use Rattle.std.specs.Prelude.{◌≡◌, ◌<◌, IfOk, length, slice_set};
+ghost use Rattle.std.specs.Prelude.{◌≡◌, ◌+◌, ◌<◌, IfOk, length, replicate, slice_set};
 ghost use Rattle.stale_model.specs.Orders.{StandsAt};
 ghost use Rattle.stale_model.specs.Counted.{IsScore, waiting};
 ghost use Rattle.live_score.specs.declared.places.Place.{Place};
@@ -65,9 +65,7 @@ impl Live {
         let Ok(fed) = Vec::with_capacity(alloc, places as usize) else {
             return Err(Memory);
         };
-        let Ok(mut rows) = vec![in alloc; UNSEEN; values as usize + 1] else {
-            return Err(Memory);
-        };
+        let mut rows = unseen(alloc, values)?;
         rows[0] = ABSENT;
         let mut tree = Places::prepare(alloc, places as usize + 1)?;
         tree.put(0, ABSENT.place);
@@ -121,6 +119,13 @@ impl Live {
     {
         self.waiting
     }
+}
+
+// The rows of values that no operation has: of absent, and of as many others.
+fn unseen(alloc: Global, values: u32) -> Result<Vec<Row>, Memory>
+    ensures { IfOk result (λ rows. rows.items ≡ replicate (values + 1) UNSEEN) }
+{
+    vec![in alloc; UNSEEN; values as usize + 1].map_err(|_| Memory)
 }
 
 // Puts the new numbers of a value at its place, and answers the score after that: the greater of the one before and of
