@@ -1,15 +1,15 @@
 -- What an operation is answered, by the record of its value's write.
-use Rattle.std.proofs.Common.{◌≡◌, ℕ, List, [], ◌∷◌, ◌++◌, Option, Some, None, refl, sym, ◌∙◌}
+use Rattle.std.proofs.Common.{◌≡◌, ℕ, List, [], ◌∷◌, ◌++◌, Option, Some, None, refl, ◌∙◌}
 use Rattle.std.proofs.lemmas.Bool.{both_ways}
 use Rattle.stale_model.specs.declared.Op.{Op}
 use Rattle.stale_model.specs.declared.Kind.{Kind}
 use Rattle.stale_model.specs.declared.Kind.TheVariants.{Read, Write}
-use Rattle.stale_model.specs.Operations.{IsRead, IsWrite, initial_write}
+use Rattle.stale_model.specs.Operations.{initial_write}
 use Rattle.stale_model.specs.Counted.{counts}
 use Rattle.live_score.specs.declared.live.Fed.{Fed}
 use Rattle.live_score.specs.declared.live.Fed.TheVariants.{Counted, Waiting, Duplicate}
 use Rattle.live_score.specs.Answers.{answer_of}
-use Rattle.live_score.specs.Feeding.{IsSecondWrite, IsEarlyFed, IsFedAs, fed_after}
+use Rattle.live_score.specs.Feeding.{IsFedAs, fed_after}
 use Rattle.live_score.specs.Rows.{IsWriteKept}
 use Rattle.live_score.proofs.Counting.{counts_written, counts_unwritten}
 use Rattle.live_score.proofs.RowsGrow.{read_no_write}

@@ -1,8 +1,8 @@
 -- Which operations count, and how many reads wait, after one more.
-use Rattle.std.proofs.Common.{◌≡◌, ◌≢◌, ◌⊎◌, ℕ, ◌+◌, ◌-◌, ◌<◌, ◌≤◌, ◌==◌, Bool, true, false, cond, not, ◌&&◌, ◌||◌, List, [], ◌∷◌, ◌++◌, Option, Some, None, length, set, refl, sym, ◌∙◌, ap, inl, inr, subst, arith, eq-eqb}
+use Rattle.std.proofs.Common.{◌≡◌, ◌≢◌, ℕ, ◌+◌, ◌≤◌, ◌==◌, Bool, true, false, cond, not, ◌&&◌, ◌||◌, List, [], ◌∷◌, ◌++◌, Option, Some, None, length, set, refl, sym, ◌∙◌, ap, inl, inr, subst, arith, eq-eqb}
 use Rattle.std.specs.Prelude.{Contains}
-use Rattle.std.specs.List.{list_any, count_by, sum_by}
-use Rattle.std.proofs.lemmas.Bool.{eqb-true, eqb-false, ne_eqb, cases_eq, or_from, or_left, or_right, and_from, and_left, and_parts, false_from_ne_true}
+use Rattle.std.specs.List.{sum_by}
+use Rattle.std.proofs.lemmas.Bool.{eqb-true, ne_eqb, cases_eq, or_from, or_left, or_right, and_from, and_left, and_parts, false_from_ne_true}
 use Rattle.std.proofs.lemmas.Option.{none-some, slice_get_within}
 use Rattle.std.proofs.lemmas.List.Folds.{list_any-append, list_any_at, Any-from_list_any}
 use Rattle.std.proofs.lemmas.List.Sums.{sum_by-cons, sum_by_push, count_by-le-length}
@@ -142,11 +142,11 @@ module _ (fed : List Op) (op : Op) (write : IsWrite op) (none : (w : Op) → IsW
   waits_after_write : (a : Op) → Contains fed a → waits fed a ≡ waits (fed ++ op ∷ []) a + cond (a.value == op.value) 1 0
   waits_after_write a there =
       split_by (is_write a) (a.value == 0) (is_written fed a.value) (a.value == op.value) (λ t.
-          let e = eqb-true a.value op.value t in (
-            not_written_by fed op.value none a there e,
-            ne_eqb a.value 0 (λ absent. not_absent fed op.value none (sym e ∙ absent)),
-            ap (is_written fed) e ∙ not_written fed op.value none,
-          ))
+      let e = eqb-true a.value op.value t in (
+        not_written_by fed op.value none a there e,
+        ne_eqb a.value 0 (λ absent. not_absent fed op.value none (sym e ∙ absent)),
+        ap (is_written fed) e ∙ not_written fed op.value none,
+      ))
       ∙ ap (λ (b : Bool). cond (not ((is_write a || (a.value == 0)) || b)) 1 0 + cond (a.value == op.value) 1 0) (sym (written_after_write fed op a.value write))
 
   itself_counts : waits (fed ++ op ∷ []) op ≡ 0

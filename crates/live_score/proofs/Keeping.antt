@@ -1,35 +1,29 @@
 -- What is kept of the operations that were fed: at first, and after one more.
-use Rattle.std.proofs.Common.{◌≡◌, ◌≢◌, ◌⊎◌, ℕ, zero, suc, ◌+◌, ◌-◌, ◌^◌, ◌<◌, ◌≤◌, List, [], ◌∷◌, ◌++◌, Option, Some, None, length, set, replicate, get_or, refl, sym, ◌∙◌, ap, inl, inr, subst, arith}
+use Rattle.std.proofs.Common.{◌≡◌, ◌≢◌, ℕ, ◌+◌, ◌<◌, ◌≤◌, List, [], ◌∷◌, ◌++◌, Option, Some, None, length, set, refl, sym, ◌∙◌, ap, inl, inr, subst, arith}
 use Rattle.std.specs.Prelude.{Contains, All, unwrap_or}
-use Rattle.std.specs.List.{AllPairs}
-use Rattle.std.proofs.lemmas.Bool.{cases_eq}
-use Rattle.std.proofs.lemmas.List.{length-set, length-replicate, get_or-replicate, length_push}
-use Rattle.std.proofs.lemmas.List.Elements.{All-nil, All-push, All-contains, Contains-push_cases}
+use Rattle.std.proofs.lemmas.List.{length-set, length_push}
+use Rattle.std.proofs.lemmas.List.Elements.{All-push, All-contains, Contains-push_cases}
 use Rattle.std.proofs.lemmas.List.Quantifiers.{all_pairs_push}
-use Rattle.std.proofs.lemmas.Option.{none-some, same_Some, slice_get_within, get_or_from_slice_get}
+use Rattle.std.proofs.lemmas.Option.{none-some, same_Some}
 use Rattle.stale_model.specs.declared.Op.{Op}
-use Rattle.stale_model.specs.declared.Kind.TheVariants.{Read, Write}
-use Rattle.stale_model.specs.Operations.{IsRead, IsWrite, initial_write, earliest_start, latest_finish}
+use Rattle.stale_model.specs.Operations.{IsWrite, initial_write, latest_finish}
 use Rattle.stale_model.specs.Valid.{IsValidOp}
 use Rattle.stale_model.specs.Faults.{IsWriteOf}
 use Rattle.stale_model.specs.NamedWrites.{WritesDiffer}
 use Rattle.stale_model.specs.Orders.{StandsAt}
-use Rattle.stale_model.specs.Counted.{IsScore, waiting}
-use Rattle.stale_model.proofs.Members.{empty_has_none, contains_first}
+use Rattle.stale_model.specs.Counted.{IsScore}
 use Rattle.stale_model.proofs.Sorted.{first_or_later}
 use Rattle.live_score.specs.declared.places.Place.{Place}
 use Rattle.live_score.specs.declared.rows.Row.{Row}
 use Rattle.live_score.specs.Answers.{waiting_after}
-use Rattle.live_score.specs.Places.{AreRising, unused, unbounded}
-use Rattle.live_score.specs.Rows.{IsWriteKept, IsRowOf, AreRows, AreCounts, row_after, taken_after, shown}
-use Rattle.live_score.specs.Placing.{IsVacant, IsShown, IsOfRow, ArePlaced, IsRaised, IsGreatestWithoutEarly, IsScoreOfPlaces, vacated}
+use Rattle.live_score.specs.Places.{AreRising, unbounded}
+use Rattle.live_score.specs.Rows.{IsWriteKept, row_after, taken_after, shown}
+use Rattle.live_score.specs.Placing.{IsRaised, IsScoreOfPlaces, vacated}
 use Rattle.live_score.specs.Invariant.{AreFed, IsKept}
 use Rattle.live_score.proofs.Counting.{waiting_grows, counts_grow}
-use Rattle.live_score.proofs.PlacesGrow.{IsPlaceFor, shown_at, row_at, placed_grow, rising_grows, rising_stays, raised_there, shown_f_after}
-use Rattle.live_score.proofs.Raising.{score_vacant, score_flips}
+use Rattle.live_score.proofs.PlacesGrow.{IsPlaceFor, shown_at, row_at, placed_grow, rising_stays, raised_there, shown_f_after}
 use Rattle.live_score.proofs.RowsGrow.{rows_grow}
 use Rattle.live_score.proofs.Scoring.{score_is_of_places}
-use Rattle.live_score.proofs.Stands.{after_write, written}
 
 -- the place of a value: its own, or the first that is not taken
 place_for : (kept : Option ℕ) (taken : ℕ) → IsPlaceFor kept taken (unwrap_or kept taken) (taken_after kept taken)
@@ -53,17 +47,17 @@ writes_differ ops op first once value v w hv hw = elim (Contains-push_cases ops 
             absurd (first kind v (subst (λ (n : ℕ). IsWriteOf ops n v) value_is v_writes))
       ]
   | inr v_same ↦ elim (Contains-push_cases ops op w hw.there) [
-      | inl w_before ↦
-          let w_writes : IsWriteOf ops value w = record { there = w_before; kind = hw.kind; value_is = hw.value_is } in
-          let kind : IsWrite op = ap (λ (x : Op). x.kind) v_same ∙ hv.kind in
-          let value_is : value ≡ op.value = sym hv.value_is ∙ sym (ap (λ (x : Op). x.value) v_same) in
-          absurd (first kind w (subst (λ (n : ℕ). IsWriteOf ops n w) value_is w_writes))
-      | inr w_same ↦ sym v_same ∙ w_same
-    ]
+    | inl w_before ↦
+        let w_writes : IsWriteOf ops value w = record { there = w_before; kind = hw.kind; value_is = hw.value_is } in
+        let kind : IsWrite op = ap (λ (x : Op). x.kind) v_same ∙ hv.kind in
+        let value_is : value ≡ op.value = sym hv.value_is ∙ sym (ap (λ (x : Op). x.value) v_same) in
+        absurd (first kind w (subst (λ (n : ℕ). IsWriteOf ops n w) value_is w_writes))
+    | inr w_same ↦ sym v_same ∙ w_same
+  ]
 ]
 
 module _ (values : ℕ) (fed : List Op) (rows : List Row) (taken : ℕ) (places : List Place) (score_now : Option ℕ) (waits : ℕ) (kept : IsKept values fed rows taken places score_now waits)
-  (op : Op) (row : Row) (here : StandsAt rows op.value row) (valid : IsValidOp values op) (first : IsWrite op → row.write ≡ None) where
+    (op : Op) (row : Row) (here : StandsAt rows op.value row) (valid : IsValidOp values op) (first : IsWrite op → row.write ≡ None) where
   fits : latest_finish op ≤ unbounded
   fits = let ends = valid.ends in let slack = valid.slack in omega arith
 
@@ -136,9 +130,9 @@ module _ (values : ℕ) (fed : List Op) (rows : List Row) (taken : ℕ) (places 
       let places_new : places_then ≡ set places at new_shows = places_is ∙ ap (λ (p : Place). set places at p) shows_new in
       let rows_new : rows_then ≡ set rows op.value new = rows_is ∙ ap (λ (r : Row). set rows op.value r) next_is in
       let raises_new : (old : Place) → StandsAt places at old → IsRaised old new_shows → AreRising (set places at (vacated new_shows)) → IsScoreOfPlaces places score_now → IsScoreOfPlaces (set places at new_shows) score_then =
-          λ old stands raised rising h.
-              subst (λ (l : List Place). IsScoreOfPlaces l score_then) places_new
-              (raises old stands (subst (λ (p : Place). IsRaised old p) (sym shows_new) raised) (subst (λ (p : Place). AreRising (set places at (vacated p))) (sym shows_new) rising) h) in
+      λ old stands raised rising h.
+      subst (λ (l : List Place). IsScoreOfPlaces l score_then) places_new
+      (raises old stands (subst (λ (p : Place). IsRaised old p) (sym shows_new) raised) (subst (λ (p : Place). AreRising (set places at (vacated p))) (sym shows_new) rising) h) in
       let after = kept_after limit room enough new_record last at at_is score_then raises_new in
       let with_fed = subst (λ (l : List Op). IsKept values l (set rows op.value new) (taken_after row.at taken) (set places at new_shows) score_then (waiting_after op.kind row.write waits row.count)) (sym fed_is) after in
       let with_rows = subst (λ (l : List Row). IsKept values fed_then l (taken_after row.at taken) (set places at new_shows) score_then (waiting_after op.kind row.write waits row.count)) (sym rows_new) with_fed in

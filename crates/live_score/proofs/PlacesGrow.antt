@@ -1,20 +1,19 @@
 -- Places and rows after one more operation.
-use Rattle.std.proofs.Common.{◌≡◌, ◌≢◌, ◌⊎◌, ℕ, ◌+◌, ◌^◌, ◌-◌, ◌<◌, ◌≤◌, max, List, [], ◌∷◌, ◌++◌, Option, Some, None, length, set, get_or, refl, sym, ◌∙◌, ap, inl, inr, subst, arith}
+use Rattle.std.proofs.Common.{◌≡◌, ◌≢◌, ◌⊎◌, ℕ, ◌+◌, ◌<◌, ◌≤◌, List, Option, Some, None, length, set, get_or, refl, sym, ◌∙◌, ap, inl, inr, subst, arith}
 use Rattle.std.specs.Prelude.{Contains}
-use Rattle.std.proofs.lemmas.Bool.{cases_eq, cases_lt, cases_order}
+use Rattle.std.proofs.lemmas.Bool.{cases_eq}
 use Rattle.std.proofs.lemmas.Option.{slice_get_within, slice_get-get_or, get_or_from_slice_get, none-some, same_Some}
-use Rattle.std.proofs.lemmas.List.{length-set}
 use Rattle.stale_model.specs.declared.Op.{Op}
 use Rattle.stale_model.specs.declared.Kind.{Kind}
 use Rattle.stale_model.specs.declared.Kind.TheVariants.{Read, Write}
-use Rattle.stale_model.specs.Operations.{IsWrite, earliest_start, latest_finish}
+use Rattle.stale_model.specs.Operations.{IsWrite, latest_finish}
 use Rattle.stale_model.specs.Orders.{StandsAt}
 use Rattle.stale_model.proofs.Places.{something_at, same_at}
 use Rattle.live_score.specs.declared.places.Place.{Place}
 use Rattle.live_score.specs.declared.rows.Row.{Row}
 use Rattle.live_score.specs.Places.{AreRising, unused, unbounded}
-use Rattle.live_score.specs.Rows.{IsFinishOf, IsFinishKept, IsRowOf, AreRows, first_finish, placed_row, row_with, row_after, taken_after, shown}
-use Rattle.live_score.specs.Placing.{IsVacant, IsShown, IsOfRow, ArePlaced, IsRaised, vacated}
+use Rattle.live_score.specs.Rows.{IsFinishOf, IsFinishKept, AreRows, first_finish, placed_row, row_with, row_after, shown}
+use Rattle.live_score.specs.Placing.{IsVacant, IsShown, IsOfRow, ArePlaced, IsRaised}
 use Rattle.live_score.proofs.Stands.{after_write, written, unwritten}
 
 -- what is shown has the f of the row
@@ -126,13 +125,13 @@ module _ (rows : List Row) (taken : ℕ) (places : List Place) (placed : ArePlac
     apart_after : (v u k : ℕ) (a b : Row) → StandsAt (set rows value new) v a → StandsAt (set rows value new) u b → a.at ≡ Some k → b.at ≡ Some k → v ≡ u
     apart_after v u k a b ata atb e f = elim (after_write rows value new v a row_within ata) [
       | inl (v_is, a_new) ↦ elim (after_write rows value new u b row_within atb) [
-          | inl (u_is, b_new) ↦ v_is ∙ sym u_is
-          | inr (u_other, before) ↦ absurd (u_other (only u b before (f ∙ sym (new_is_at k a a_new e))))
-        ]
+        | inl (u_is, b_new) ↦ v_is ∙ sym u_is
+        | inr (u_other, before) ↦ absurd (u_other (only u b before (f ∙ sym (new_is_at k a a_new e))))
+      ]
       | inr (v_other, a_before) ↦ elim (after_write rows value new u b row_within atb) [
-          | inl (u_is, b_new) ↦ absurd (v_other (only v a a_before (e ∙ sym (new_is_at k b b_new f))))
-          | inr (u_other, b_before) ↦ placed.apart v u k a b a_before b_before e f
-        ]
+        | inl (u_is, b_new) ↦ absurd (v_other (only v a a_before (e ∙ sym (new_is_at k b b_new f))))
+        | inr (u_other, b_before) ↦ placed.apart v u k a b a_before b_before e f
+      ]
     ]
 
     owned_before : (k : ℕ) → k < next → k ≢ at → k < taken
@@ -144,8 +143,8 @@ module _ (rows : List Row) (taken : ℕ) (places : List Place) (placed : ArePlac
       | inr other ↦
           let h = placed.owned k (owned_before k l other) in
           let differs : h.value ≢ value = λ e.
-              let row_is : h.row ≡ row = same_at rows value h.row row (subst (λ (n : ℕ). StandsAt rows n h.row) e h.stands) here in
-              other (at_is.own k (ap (λ (r : Row). r.at) (sym row_is) ∙ h.at_is)) in
+          let row_is : h.row ≡ row = same_at rows value h.row row (subst (λ (n : ℕ). StandsAt rows n h.row) e h.stands) here in
+          other (at_is.own k (ap (λ (r : Row). r.at) (sym row_is) ∙ h.at_is)) in
           record { value = h.value; row = h.row; stands = unwritten rows value new h.value h.row differs h.stands; at_is = h.at_is }
     ]
 
@@ -181,9 +180,9 @@ rising_grows places k y within rising before behind = rising_from (set places k 
         | inr (j_other, b_before) ↦ let h = behind j b (omega arith) b_before in omega arith
       ]
   | inr (i_other, a_before) ↦ elim (after_write places k y j b within atj) [
-      | inl (j_is, b_is) ↦ let f = ap (λ (p : Place). p.f) b_is in let h = before i a (omega arith) a_before in omega arith
-      | inr (j_other, b_before) ↦ rising_at places i j a b rising le a_before b_before
-    ]
+    | inl (j_is, b_is) ↦ let f = ap (λ (p : Place). p.f) b_is in let h = before i a (omega arith) a_before in omega arith
+    | inr (j_other, b_before) ↦ rising_at places i j a b rising le a_before b_before
+  ]
 ])
 
 pub finish_of : (ops : List Op) (value f : ℕ) (kept : Option ℕ) (at : ℕ) → kept ≡ Some at → IsFinishKept ops value f kept → IsFinishOf ops value f
@@ -191,7 +190,7 @@ finish_of ops value f None at e h = absurd (none-some at e)
 finish_of ops value f (Some k) at e h = h
 
 module _ (ops : List Op) (op : Op) (last : (a : Op) → Contains ops a → latest_finish a ≤ latest_finish op) (fits : latest_finish op ≤ unbounded)
-  (rows : List Row) (taken : ℕ) (places : List Place) (are : AreRows ops rows) (placed : ArePlaced rows taken places) (rising : AreRising places) where
+    (rows : List Row) (taken : ℕ) (places : List Place) (are : AreRows ops rows) (placed : ArePlaced rows taken places) (rising : AreRising places) where
   taken_f : (i : ℕ) (a : Place) → i < taken → StandsAt places i a → a.f ≤ latest_finish op
   taken_f i a l stands =
       let own = placed.owned i l in
@@ -227,10 +226,10 @@ pub raised_there : (rows : List Row) (taken : ℕ) (places : List Place) → Are
     → at < length places → (IsWrite op → row.write ≡ None) → (old : Place) × StandsAt places at old × IsRaised old (shown (row_after row op at).write (row_after row op at).place)
 raised_there rows taken places placed value at next row op here at_is within first = elim at_is.kept_or_next [
   | inl kept ↦ (
-      shown row.write row.place,
-      (shown_at rows taken places placed value row at here kept.0).1,
-      raised_by op.kind row op at row.write refl kept.0 first,
-    )
+    shown row.write row.place,
+    (shown_at rows taken places placed value row at here kept.0).1,
+    raised_by op.kind row op at row.write refl kept.0 first,
+  )
   | inr fresh ↦
       let (old, stands) = something_at places at within in
       let e = placed.rest at old (let f = fresh.1 in omega arith) stands in

@@ -1,11 +1,10 @@
 -- The score after the numbers of one place changed.
-use Rattle.std.proofs.Common.{◌≡◌, ◌≢◌, ◌⊎◌, ◌↔◌, ℕ, ◌-◌, ◌<◌, ◌≤◌, max, min, cond, true, false, List, Option, Some, None, length, set, get_or, refl, sym, ◌∙◌, ap, inl, inr, subst, arith}
+use Rattle.std.proofs.Common.{◌≡◌, ◌≢◌, ◌↔◌, ℕ, ◌-◌, ◌<◌, ◌≤◌, max, min, cond, List, Option, Some, None, length, set, get_or, refl, sym, ◌∙◌, ap, inl, inr, subst, arith}
 use Rattle.std.specs.Prelude.{All, nat_lt}
 use Rattle.std.proofs.lemmas.Bool.{cases_lt, lt-ltb, le-ltb, cases_eq}
 use Rattle.std.proofs.lemmas.Bool.Decides.{nat_tests}
-use Rattle.std.proofs.lemmas.List.Elements.{All-contains, All-from_get_or}
 use Rattle.std.proofs.lemmas.Option.{slice_get_within, get_or_from_slice_get, slice_get-get_or}
-use Rattle.std.proofs.lemmas.List.{length-set, set-set}
+use Rattle.std.proofs.lemmas.List.{set-set}
 use Rattle.stale_model.specs.Orders.{StandsAt}
 use Rattle.stale_model.proofs.Places.{same_at}
 use Rattle.live_score.specs.declared.places.Place.{Place}
@@ -49,7 +48,7 @@ all_from_at : {X : Type 0} (P : X → Type 0) (xs : List X) → ((i : ℕ) (x : 
 all_from_at P xs each = λ i d l. each i (get_or xs i d) (slice_get-get_or xs i d l)
 
 module _ (places : List Place) (k : ℕ) (old new : Place) (here : StandsAt places k old) (raised : IsRaised old new) (asked : ℕ)
-  (is : (bound : ℕ) → (asked ≤ bound) ↔ All (λ x. score new x ≤ bound) (set places k (vacated new))) where
+    (is : (bound : ℕ) → (asked ≤ bound) ↔ All (λ x. score new x ≤ bound) (set places k (vacated new))) where
   within : k < length places
   within = slice_get_within places k old here
 
@@ -69,16 +68,16 @@ module _ (places : List Place) (k : ℕ) (old new : Place) (here : StandsAt plac
   greatest_bounds : (d bound : ℕ) → IsGreatestOfPlaces places d → max d asked ≤ bound → (i j : ℕ) (a b : Place) → StandsAt (set places k new) i a → StandsAt (set places k new) j b → i ≢ j → score a b ≤ bound
   greatest_bounds d bound greatest le i j a b ati atj apart = elim (after_write places k new i a within ati) [
     | inl (i_is, a_is) ↦ elim (after_write places k new j b within atj) [
-        | inl (j_is, b_is) ↦ absurd (apart (i_is ∙ sym j_is))
-        | inr (j_other, before) ↦ let h = asked_bounds bound (omega arith) j b j_other before in rw a_is h
-      ]
+      | inl (j_is, b_is) ↦ absurd (apart (i_is ∙ sym j_is))
+      | inr (j_other, before) ↦ let h = asked_bounds bound (omega arith) j b j_other before in rw a_is h
+    ]
     | inr (i_other, a_before) ↦ elim (after_write places k new j b within atj) [
-        | inl (j_is, b_is) ↦
-            let h = asked_bounds bound (omega arith) i a i_other a_before in
-            let flips = score_flips a new in
-            rw b_is (omega arith)
-        | inr (j_other, b_before) ↦ (greatest bound).0 (omega arith) i j a b a_before b_before apart
-      ]
+      | inl (j_is, b_is) ↦
+          let h = asked_bounds bound (omega arith) i a i_other a_before in
+          let flips = score_flips a new in
+          rw b_is (omega arith)
+      | inr (j_other, b_before) ↦ (greatest bound).0 (omega arith) i j a b a_before b_before apart
+    ]
   ]
 
   greatest_from : (d bound : ℕ) → IsGreatestOfPlaces places d → ((i j : ℕ) (a b : Place) → StandsAt (set places k new) i a → StandsAt (set places k new) j b → i ≢ j → score a b ≤ bound) → max d asked ≤ bound
@@ -93,14 +92,14 @@ module _ (places : List Place) (k : ℕ) (old new : Place) (here : StandsAt plac
             let h = each k j new b new_at (unwritten places k new j b j_other atj) (λ e. j_other (sym e)) in
             rw a_is (omega arith)
         | inr i_other ↦ elim (cases_eq j k) [
-            | inl j_is ↦
-                let b_is : b ≡ old = same_at places k b old (subst (λ (n : ℕ). StandsAt places n b) j_is atj) here in
-                let r = score_raised old new a raised in
-                let h = each k i new a new_at (unwritten places k new i a i_other ati) (λ e. i_other (sym e)) in
-                let flips = score_flips a old in
-                rw b_is (omega arith)
-            | inr j_other ↦ each i j a b (unwritten places k new i a i_other ati) (unwritten places k new j b j_other atj) apart
-          ]
+          | inl j_is ↦
+              let b_is : b ≡ old = same_at places k b old (subst (λ (n : ℕ). StandsAt places n b) j_is atj) here in
+              let r = score_raised old new a raised in
+              let h = each k i new a new_at (unwritten places k new i a i_other ati) (λ e. i_other (sym e)) in
+              let flips = score_flips a old in
+              rw b_is (omega arith)
+          | inr j_other ↦ each i j a b (unwritten places k new i a i_other ati) (unwritten places k new j b j_other atj) apart
+        ]
       ]) in
       omega arith
 
@@ -152,6 +151,6 @@ pub score_raises : (places vacant filled : List Place) (k asked : ℕ) (new : Pl
     → (old : Place) → StandsAt places k old → IsRaised old new → AreRising (set places k (vacated new)) → IsScoreOfPlaces places before → IsScoreOfPlaces filled result
 score_raises places vacant filled k asked new before result vacant_is filled_is is result_is old here raised rising h =
     let asked_is : (bound : ℕ) → (asked ≤ bound) ↔ All (λ x. score new x ≤ bound) (set places k (vacated new)) =
-        subst (λ (l : List Place). (bound : ℕ) → (asked ≤ bound) ↔ All (λ x. score new x ≤ bound) l) vacant_is (is (subst AreRising (sym vacant_is) rising)) in
+    subst (λ (l : List Place). (bound : ℕ) → (asked ≤ bound) ↔ All (λ x. score new x ≤ bound) l) vacant_is (is (subst AreRising (sym vacant_is) rising)) in
     subst (λ (l : List Place). IsScoreOfPlaces l result) (sym (vacated_filled places vacant filled k new vacant_is filled_is))
     (subst (λ (r : Option ℕ). IsScoreOfPlaces (set places k new) r) (sym result_is) (score_grows places k old new here raised asked asked_is before h))

@@ -1,5 +1,5 @@
 -- Rows after one more operation.
-use Rattle.std.proofs.Common.{◌≡◌, ◌≢◌, ◌⊎◌, ℕ, ◌<◌, ◌≤◌, max, List, [], ◌∷◌, ◌++◌, Option, Some, None, length, set, refl, sym, ◌∙◌, ap, inl, inr, subst, arith}
+use Rattle.std.proofs.Common.{◌≡◌, ◌≢◌, ◌⊎◌, ℕ, ◌≤◌, max, List, [], ◌∷◌, ◌++◌, Option, Some, None, set, refl, sym, ◌∙◌, ap, inl, inr, subst, arith}
 use Rattle.std.specs.Prelude.{Contains}
 use Rattle.std.proofs.lemmas.Bool.{cases_lt}
 use Rattle.std.proofs.lemmas.Option.{slice_get_within}
@@ -8,7 +8,7 @@ use Rattle.stale_model.specs.declared.Op.{Op}
 use Rattle.stale_model.specs.declared.Kind.{Kind}
 use Rattle.stale_model.specs.declared.Kind.TheVariants.{Read, Write}
 use Rattle.stale_model.specs.Operations.{IsRead, IsWrite, earliest_start, latest_finish}
-use Rattle.stale_model.specs.Faults.{IsWriteOf, IsReadIn}
+use Rattle.stale_model.specs.Faults.{IsWriteOf}
 use Rattle.stale_model.specs.Clusters.{IsOfValue, IsReadOf}
 use Rattle.stale_model.specs.Orders.{StandsAt}
 use Rattle.live_score.specs.declared.rows.Row.{Row}
@@ -111,9 +111,9 @@ module _ (ops : List Op) (op : Op) (last : (a : Op) → Contains ops a → lates
           let this : IsReadOf (ops ++ op ∷ []) op.value op = record { read = record { there = Contains-push ops op; kind = read }; value_is = refl } in
           inr (op, this, omega arith)
       | inr le ↦ elim h.there [
-          | inl zero_is ↦ inl (omega arith)
-          | inr some ↦ let is = some.2 in inr (some.0, read_more ops op op.value some.0 some.1, omega arith)
-        ]
+        | inl zero_is ↦ inl (omega arith)
+        | inr some ↦ let is = some.2 in inr (some.0, read_more ops op op.value some.0 some.1, omega arith)
+      ]
     ];
     greatest = λ r g. elim (read_cases ops op op.value r g) [
       | inl before ↦ let le = h.greatest r before in omega arith

@@ -1,34 +1,32 @@
 -- The score of the places is the score of what was fed.
-use Rattle.std.proofs.Common.{◌≡◌, ◌≢◌, ◌⊎◌, ℕ, zero, suc, ◌+◌, ◌-◌, ◌^◌, ◌<◌, ◌≤◌, ◌==◌, max, Bool, true, false, cond, ◌||◌, List, [], ◌∷◌, ◌++◌, Option, Some, None, length, map, get_or, refl, sym, ◌∙◌, ap, inl, inr, subst, arith}
-use Rattle.std.specs.Prelude.{◌↔◌, Contains, All, unwrap_or}
+use Rattle.std.proofs.Common.{◌≡◌, ◌≢◌, ◌⊎◌, ℕ, ◌+◌, ◌-◌, ◌<◌, ◌≤◌, ◌==◌, max, true, ◌||◌, List, ◌∷◌, Option, Some, None, length, get_or, refl, sym, ◌∙◌, ap, inl, inr, subst, arith}
+use Rattle.std.specs.Prelude.{Contains, All, unwrap_or}
 use Rattle.std.specs.List.{AllPairs, filter}
-use Rattle.std.proofs.lemmas.Bool.{cases_lt, cases_order, cond_both, eqb-true, eq-eqb, or_cases, or_left}
+use Rattle.std.proofs.lemmas.Bool.{cases_lt, cases_order, cond_both, eqb-true, or_cases, or_left}
 use Rattle.std.proofs.lemmas.List.{length-map}
 use Rattle.std.proofs.lemmas.List.Elements.{All-contains, All-from_get_or, Contains-get_or}
 use Rattle.std.proofs.lemmas.List.Kept.{AllPairs-cons, AllPairs-filter}
-use Rattle.std.proofs.lemmas.Option.{none-some, same_Some, slice_get_within, get_or_from_slice_get}
+use Rattle.std.proofs.lemmas.Option.{same_Some, slice_get_within, get_or_from_slice_get}
 use Rattle.stale_model.specs.declared.Op.{Op}
 use Rattle.stale_model.specs.declared.Cluster.{Cluster}
 use Rattle.stale_model.specs.Operations.{IsWrite, is_write, is_write_kind, initial_write, records_of, earliest_start, latest_finish}
 use Rattle.stale_model.specs.Valid.{IsValidOp}
-use Rattle.stale_model.specs.Faults.{IsWriteOf, IsReadIn}
-use Rattle.stale_model.specs.Clusters.{IsOfValue, IsReadOf, IsLeastFinish, AreReadsOf, IsClusterOf, AreClusters}
-use Rattle.stale_model.specs.NamedWrites.{RecordsDiffer, ValuesAreWritten, WritesDiffer, NamesItsWrites}
+use Rattle.stale_model.specs.Faults.{IsWriteOf}
+use Rattle.stale_model.specs.Clusters.{IsOfValue, IsReadOf, AreReadsOf, IsClusterOf, AreClusters}
+use Rattle.stale_model.specs.NamedWrites.{RecordsDiffer, ValuesAreWritten}
 use Rattle.stale_model.specs.Orders.{StandsAt, IsWithoutRepeats}
-use Rattle.stale_model.specs.LeastDelta.{HasNoDelta, IsLeastDelta}
-use Rattle.stale_model.specs.Zones.{reads_start}
 use Rattle.stale_model.specs.Counted.{is_written, counts, counted, IsScore}
 use Rattle.stale_model.proofs.Members.{contains_first, kept_is_there, kept_passes, kept_from}
 use Rattle.stale_model.proofs.Places.{something_at, same_at, stands_mapped}
 use Rattle.stale_model.proofs.ReadsAndWrites.{kind_is_write}
 use Rattle.stale_model.proofs.Sorted.{first_or_later, contains_later, one_by_number}
-use Rattle.delta_score.specs.ZoneLaws.{AreOrderable, FinishFromStart}
+use Rattle.delta_score.specs.ZoneLaws.{AreOrderable}
 use Rattle.live_score.specs.declared.places.Place.{Place}
 use Rattle.live_score.specs.declared.rows.Row.{Row}
-use Rattle.live_score.specs.Places.{score, unbounded, unused}
-use Rattle.live_score.specs.Scores.{place_of, IsTimely, AreWithin, IsGreatestScore}
+use Rattle.live_score.specs.Places.{score, unbounded}
+use Rattle.live_score.specs.Scores.{place_of, IsTimely, AreWithin}
 use Rattle.live_score.specs.Rows.{IsWriteKept, IsFinishOf, IsFinishKept, IsStartKept, IsRowOf, AreRows, shown}
-use Rattle.live_score.specs.Placing.{IsVacant, IsOfRow, ArePlaced, IsGreatestOfPlaces, IsEarlyPlace, IsGreatestWithoutEarly, IsScoreOfPlaces}
+use Rattle.live_score.specs.Placing.{IsVacant, ArePlaced, IsScoreOfPlaces}
 use Rattle.live_score.specs.Invariant.{AreFed}
 use Rattle.live_score.proofs.Counting.{writer_of, counts_written}
 use Rattle.live_score.proofs.Existence.{clusters_exist}
@@ -55,17 +53,17 @@ without_repeats ops differ i j x ati atj =
     elim (cases_order i j) [
       | inl e ↦ e
       | inr less ↦ elim less [
-          | inl l ↦
-              let d = differ i j a l (slice_get_within ops j b b_at) in
-              let e = ap (λ (o : Op). o.rec) (get_or_from_slice_get ops i a a a_at) in
-              let f = ap (λ (o : Op). o.rec) (get_or_from_slice_get ops j b a b_at) in
-              absurd (d (e ∙ (a_is ∙ sym (f ∙ b_is))))
-          | inr l ↦
-              let d = differ j i a l (slice_get_within ops i a a_at) in
-              let e = ap (λ (o : Op). o.rec) (get_or_from_slice_get ops i a a a_at) in
-              let f = ap (λ (o : Op). o.rec) (get_or_from_slice_get ops j b a b_at) in
-              absurd (d (f ∙ (b_is ∙ sym (e ∙ a_is))))
-        ]
+        | inl l ↦
+            let d = differ i j a l (slice_get_within ops j b b_at) in
+            let e = ap (λ (o : Op). o.rec) (get_or_from_slice_get ops i a a a_at) in
+            let f = ap (λ (o : Op). o.rec) (get_or_from_slice_get ops j b a b_at) in
+            absurd (d (e ∙ (a_is ∙ sym (f ∙ b_is))))
+        | inr l ↦
+            let d = differ j i a l (slice_get_within ops i a a_at) in
+            let e = ap (λ (o : Op). o.rec) (get_or_from_slice_get ops i a a a_at) in
+            let f = ap (λ (o : Op). o.rec) (get_or_from_slice_get ops j b a b_at) in
+            absurd (d (f ∙ (b_is ∙ sym (e ∙ a_is))))
+      ]
     ]
 
 -- a valid operation starts before all ticks end, and no later than it finishes
@@ -118,11 +116,11 @@ module _ (values : ℕ) (fed : List Op) (are : AreFed values fed) where
   counted_once =
       let rest = AllPairs-filter (λ a b. a.rec ≢ b.rec) (counts fed) fed are.records in
       let initial : All (λ (b : Op). initial_write.rec ≢ b.rec) (filter (counts fed) fed) =
-          All-from_get_or (λ (b : Op). initial_write.rec ≢ b.rec) (filter (counts fed) fed) initial_write (λ i l e.
-          let b = get_or (filter (counts fed) fed) i initial_write in
-          let valid = All-contains (IsValidOp values) fed b are.valid (kept_is_there (counts fed) fed b (Contains-get_or (filter (counts fed) fed) i initial_write l)) in
-          let n = valid.numbered in
-          omega arith) in
+      All-from_get_or (λ (b : Op). initial_write.rec ≢ b.rec) (filter (counts fed) fed) initial_write (λ i l e.
+      let b = get_or (filter (counts fed) fed) i initial_write in
+      let valid = All-contains (IsValidOp values) fed b are.valid (kept_is_there (counts fed) fed b (Contains-get_or (filter (counts fed) fed) i initial_write l)) in
+      let n = valid.numbered in
+      omega arith) in
       without_repeats (counted fed) (AllPairs-cons (λ a b. a.rec ≢ b.rec) initial_write (filter (counts fed) fed) initial rest)
 
   counted_differ : RecordsDiffer (counted fed)
@@ -135,14 +133,14 @@ module _ (values : ℕ) (fed : List Op) (are : AreFed values fed) where
   counted_written a c = elim (first_or_later initial_write a (filter (counts fed) fed) c) [
     | inl same ↦ (initial_write, subst (λ (x : Op). IsWriteOf (counted fed) x.value initial_write) same initial_writes)
     | inr there ↦ elim (or_cases (is_write a || (a.value == 0)) (is_written fed a.value) (kept_passes (counts fed) fed a there)) [
-        | inl first ↦ elim (or_cases (is_write a) (a.value == 0) first) [
-            | inl writes ↦ (a, record { there = c; kind = kind_is_write a.kind writes; value_is = refl })
-            | inr absent ↦ (initial_write, subst (λ (v : ℕ). IsWriteOf (counted fed) v initial_write) (sym (eqb-true a.value 0 absent)) initial_writes)
-          ]
-        | inr written ↦
-            let (w, w_there, kind, value_is) = writer_of fed a.value written in
-            (w, record { there = counted_of_fed w (contains_later initial_write w fed w_there) (write_counts w kind); kind = kind; value_is = value_is })
+      | inl first ↦ elim (or_cases (is_write a) (a.value == 0) first) [
+        | inl writes ↦ (a, record { there = c; kind = kind_is_write a.kind writes; value_is = refl })
+        | inr absent ↦ (initial_write, subst (λ (v : ℕ). IsWriteOf (counted fed) v initial_write) (sym (eqb-true a.value 0 absent)) initial_writes)
       ]
+      | inr written ↦
+          let (w, w_there, kind, value_is) = writer_of fed a.value written in
+          (w, record { there = counted_of_fed w (contains_later initial_write w fed w_there) (write_counts w kind); kind = kind; value_is = value_is })
+    ]
   ]
 
   write_fed : (value : ℕ) (w : Op) → IsWriteOf (counted fed) value w → IsWriteOf (initial_write ∷ fed) value w
@@ -230,7 +228,7 @@ pub record IsPlacedCluster (fed : List Op) (rows : List Row) (c : Cluster) (at :
   pub at_is : row.at ≡ Some at
 
 module _ (values : ℕ) (fed : List Op) (are : AreFed values fed) (rows : List Row) (taken : ℕ) (places : List Place) (size : length rows ≡ values + 1)
-  (says : AreRows (initial_write ∷ fed) rows) (placed : ArePlaced rows taken places) (clusters : List Cluster) (of : AreClusters (counted fed) clusters) where
+    (says : AreRows (initial_write ∷ fed) rows) (placed : ArePlaced rows taken places) (clusters : List Cluster) (of : AreClusters (counted fed) clusters) where
   -- each cluster stands at a place
   cluster_stands : (c : Cluster) → Contains clusters c → (at : ℕ) × IsPlacedCluster fed rows c at × StandsAt places at (place_of c)
   cluster_stands c there =
@@ -309,11 +307,11 @@ module _ (values : ℕ) (fed : List Op) (are : AreFed values fed) (rows : List R
   within_places bound within i j a b ati atj apart = elim (place_says i a ati) [
     | inl vacant ↦ let e = score_flips a b ∙ score_vacant b a vacant in omega arith
     | inr (c, c_there, p, a_is) ↦ elim (place_says j b atj) [
-        | inl vacant ↦ let e = score_vacant a b vacant in omega arith
-        | inr (d, d_there, q, b_is) ↦
-            let le = within c d c_there d_there (λ e. apart (places_apart c d i j p q e)) in
-            subst (λ (x : Place). score x b ≤ bound) a_is (subst (λ (y : Place). score (place_of c) y ≤ bound) b_is le)
-      ]
+      | inl vacant ↦ let e = score_vacant a b vacant in omega arith
+      | inr (d, d_there, q, b_is) ↦
+          let le = within c d c_there d_there (λ e. apart (places_apart c d i j p q e)) in
+          subst (λ (x : Place). score x b ≤ bound) a_is (subst (λ (y : Place). score (place_of c) y ≤ bound) b_is le)
+    ]
   ]
 
   score_by : (score_now : Option ℕ) → IsScoreOfPlaces places score_now → IsScore fed score_now

@@ -1,13 +1,12 @@
 -- What is kept before any operation.
-use Rattle.std.proofs.Common.{◌≡◌, ◌≢◌, ◌⊎◌, ℕ, zero, suc, ◌+◌, ◌-◌, ◌^◌, ◌<◌, ◌≤◌, List, [], ◌∷◌, Option, Some, None, length, set, replicate, get_or, refl, sym, ◌∙◌, ap, inl, inr, subst, arith}
+use Rattle.std.proofs.Common.{◌≡◌, ◌≢◌, ◌⊎◌, ℕ, ◌+◌, ◌<◌, List, [], ◌∷◌, Some, None, length, set, replicate, refl, sym, ◌∙◌, ap, inl, inr, subst, arith}
 use Rattle.std.specs.Prelude.{Contains}
 use Rattle.std.proofs.lemmas.List.{length-set, length-replicate, get_or-replicate}
 use Rattle.std.proofs.lemmas.List.Elements.{All-nil}
-use Rattle.std.proofs.lemmas.Option.{none-some, same_Some, slice_get_within, get_or_from_slice_get}
+use Rattle.std.proofs.lemmas.Option.{none-some, slice_get_within, get_or_from_slice_get}
 use Rattle.stale_model.specs.declared.Op.{Op}
-use Rattle.stale_model.specs.Operations.{initial_write, earliest_start, latest_finish}
+use Rattle.stale_model.specs.Operations.{initial_write}
 use Rattle.stale_model.specs.Valid.{IsValidOp}
-use Rattle.stale_model.specs.Faults.{IsWriteOf}
 use Rattle.stale_model.specs.Clusters.{IsReadOf}
 use Rattle.stale_model.specs.Orders.{StandsAt}
 use Rattle.stale_model.proofs.Members.{empty_has_none, contains_first}
@@ -15,8 +14,8 @@ use Rattle.stale_model.proofs.Sorted.{first_or_later}
 use Rattle.live_score.specs.declared.places.Place.{Place}
 use Rattle.live_score.specs.declared.rows.Row.{Row}
 use Rattle.live_score.specs.Places.{AreRising, unused}
-use Rattle.live_score.specs.Rows.{IsRowOf, shown}
-use Rattle.live_score.specs.Placing.{IsVacant, IsShown, IsOfRow, ArePlaced, IsGreatestWithoutEarly}
+use Rattle.live_score.specs.Rows.{IsRowOf}
+use Rattle.live_score.specs.Placing.{IsVacant, IsShown, ArePlaced, IsGreatestWithoutEarly}
 use Rattle.live_score.specs.Invariant.{AreFed, IsKept}
 use Rattle.live_score.proofs.PlacesGrow.{rising_grows}
 use Rattle.live_score.proofs.Raising.{score_vacant}

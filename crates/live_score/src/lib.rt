@@ -4,5 +4,7 @@
 mod live;
 mod places;
 mod rows;
+#[cfg(test)]
+mod tests;
 
 pub use live::{Fed, Live};

@@ -82,7 +82,7 @@ impl Live {
     }
 
     /// Feeds the operation that finished last of all so far. Each feed takes the time of the logarithm of the number of
-    /// values, and no memory. After `Duplicate` all is as before; else the operation stands last.
+    /// places, and no memory. After `Duplicate` all is as before; else the operation stands last.
     pub fn feed(&mut self, op: &Op) -> Fed
         requires { CanBeFed self.old op.now }
         ensures answer { IsFedAs self.old.fed op.now result }
@@ -137,7 +137,14 @@ fn raise(tree: &mut Places, at: usize, place: Place, score: Option<u64>) -> Opti
         → AreRising (slice_set tree.old at (vacated place)) → IsScoreOfPlaces tree.old score
         → IsScoreOfPlaces tree.new result }
 {
-    tree.put(at, Place { w: 0, s: 0, ..place });
+    tree.put(
+        at,
+        Place {
+            w: 0,
+            s: 0,
+            ..place
+        },
+    );
     let asked = tree.greatest_score(&place);
     tree.put(at, place);
     score_after(score, &place, asked)

@@ -1,5 +1,5 @@
 -- The rows and the places are those of absent alone.
-use Rattle.std.proofs.Common.{◌≡◌, ◌+◌, ℕ, List, length, replicate, ◌∙◌, ap, arith}
+use Rattle.std.proofs.Common.{◌+◌, List, length, ◌∙◌, ap, arith}
 use Rattle.std.proofs.lemmas.List.{length-replicate, length-set}
 use Rattle.live_score.specs.declared.places.Place.{Place}
 use Rattle.live_score.specs.Places.{unused}
