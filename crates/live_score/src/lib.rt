@@ -2,5 +2,9 @@
 #![tactic(auto)]
 
 mod live;
+mod places;
+mod rows;
+#[cfg(test)]
+mod tests;
 
 pub use live::{Fed, Live};
