@@ -1,3 +1,6 @@
 pub mod Lines
 pub mod Reading
 pub mod Parts
+pub mod JournalSteps
+pub mod TakingSteps
+pub mod SendingSteps
