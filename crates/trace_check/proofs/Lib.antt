@@ -6,3 +6,6 @@ pub mod Definite
 pub mod Serving
 pub mod Taking
 pub mod Sending
+pub mod Neighbours
+pub mod Groups
+pub mod FirstFailing

@@ -4,3 +4,4 @@ pub mod Parts
 pub mod JournalSteps
 pub mod TakingSteps
 pub mod SendingSteps
+pub mod CallSteps

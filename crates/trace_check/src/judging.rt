@@ -5,7 +5,21 @@ ghost use Rattle.stale_model.specs.Settings.{AreSettings};
 ghost use Rattle.quorum_client.specs.Plans.{plan_for};
 ghost use Rattle.trace_check.specs.Parts.{IsPartOf};
 
+mod by_client;
+mod planned;
+mod sent;
+mod served;
+mod taken;
+mod timed;
+
 use crate::Trace;
+use crate::judging::by_client::entries_by_client;
+use crate::judging::planned::are_planned;
+use crate::judging::sent::are_sent;
+use crate::judging::served::are_journals;
+use crate::judging::taken::{are_taken, read_freshest};
+use crate::judging::timed::are_timed;
+use quorum_client::plan_of;
 use stale_model::{Memory, Settings};
 use std::alloc::Global;
 
@@ -33,5 +47,30 @@ pub fn recorded(alloc: Global, settings: &Settings, trace: &Trace) -> Result<Par
     requires { AreSettings settings.now }
     ensures { IfOk result (IsPartOf settings.now (plan_for settings.now) trace.now) }
 {
-    Err(Memory)
+    let plan = plan_of(alloc, settings)?;
+    let entries = trace.entries.as_slice();
+    let journals = trace.journals.as_slice();
+    let groups = entries_by_client(alloc, settings.clients, entries)?;
+    if !are_planned(settings, &plan, entries, groups.as_slice()) {
+        return Ok(Part::Bad { part: 1 });
+    }
+    if !are_timed(alloc, settings.clients, entries, groups.as_slice(), journals)? {
+        return Ok(Part::Bad { part: 2 });
+    }
+    if !are_taken(alloc, settings, entries, journals)? {
+        return Ok(Part::Bad { part: 3 });
+    }
+    if !read_freshest(entries) {
+        return Ok(Part::Bad { part: 4 });
+    }
+    if !are_journals(alloc, journals)? {
+        return Ok(Part::Bad { part: 5 });
+    }
+    if !are_sent(alloc, settings, entries, journals)? {
+        return Ok(Part::Bad { part: 6 });
+    }
+    Ok(Part::Good)
 }
+
+#[cfg(test)]
+mod tests;
