@@ -31,7 +31,8 @@ type ByTicket<'a> = BTreeMap<u64, &'a JournalEntry>;
 /// The replies that a call took.
 #[tactic(auto, using(std::proofs::lemmas::List::take_all))]
 pub(crate) fn taken_by(call: &Entry) -> &[Took]
-    ensures { result.now ≡ taken_by call.now }
+    ensures taken { result.now ≡ taken_by call.now }
+    ensures few { length result.now ≤ 7 }
 {
     let count = call.took_count as usize;
     if count < MOST_REPLICAS {
@@ -206,7 +207,8 @@ fn has_quorum(settings: &Settings, call: &Entry) -> bool
         × (length (taken_by call.now) ≡ call.now.took_count) }
     ensures few { IsTrue result → call.now.took_count ≤ 7 }
 {
-    call.took_count == quorum(settings, call.kind) && call.took_count as usize <= MOST_REPLICAS
+    let count = call.took_count as usize;
+    call.took_count == quorum(settings, call.kind) && taken_by(call).len() == count
 }
 
 // Whether a call took as many replies as its quorum says, of different replicas, each of them given while it ran.

@@ -7,4 +7,4 @@ pub returns : goal.returns
 returns c =
     let journals = c.args.journals.now in
     c.are_all_taken.ensures journals (subst (λ (l : List Lookup). AreByTicket journals l) (sym c.as_slice.ensures.value) c.in_ok-lookups.ensures)
-    (served_once c.args.entries.now journals c.requires)
+    (served_once c.args.entries.now journals c.requires.once)
