@@ -1,5 +1,5 @@
 -- How a trace ends: what its two files read as, and what is found of it.
-use Rattle.std.proofs.Common.{◌≡◌, ◌⊎◌, ◌≤◌, ℕ, suc, List, None, Result, Ok, Err, refl, sym, inl, inr, arith}
+use Rattle.std.proofs.Common.{◌≡◌, ◌⊎◌, ℕ, List, None, Result, Ok, Err, refl, sym, inl, inr, arith}
 use Rattle.std.specs.Prelude.{IfOk, IfErr}
 use Rattle.stale_model.specs.declared.store.Settings.{Settings}
 use Rattle.stale_model.specs.RecordedRuns.{IsRecordedRun}
@@ -10,7 +10,7 @@ use Rattle.trace_check.specs.declared.judging.Part.TheVariants as part
 use Rattle.trace_check.specs.declared.reading.TraceFault.{TraceFault}
 use Rattle.trace_check.specs.declared.reading.TraceFault.TheVariants as trace_fault
 use Rattle.trace_check.specs.Reading.{trace_of}
-use Rattle.trace_check.specs.Parts.{PartHolds, IsFirstFailing}
+use Rattle.trace_check.specs.Parts.{IsFirstFailing}
 use Rattle.audit_ports.specs.Shelf.{Shown}
 use Rattle.audit_ports.specs.Sink.{SinkShown}
 use Rattle.audit_words.specs.declared.Task.TheVariants.{Trace as TraceTask}
@@ -25,22 +25,17 @@ use Rattle.audit_commands.specs.Refusals.{Shows, TaskEnds, TraceReadsAs}
 use Rattle.command_outputs.proofs.WritingFiles.{counts_kept}
 use Rattle.audit_commands.proofs.Keeping.{keeps_reading}
 
--- each part holds of a recorded run
-parts_hold : (settings : Settings) (trace : Trace) → IsRecordedRun settings (plan_for settings) trace.entries trace.journals → (number : ℕ) → 1 ≤ number
-    → number ≤ 6 → PartHolds settings (plan_for settings) trace number
-parts_hold settings trace run 0 low high = absurd (omega arith)
-parts_hold settings trace run 1 low high = run.planned
-parts_hold settings trace run 2 low high = run.timed
-parts_hold settings trace run 3 low high = run.taken
-parts_hold settings trace run 4 low high = run.freshest
-parts_hold settings trace run 5 low high = run.served
-parts_hold settings trace run 6 low high = run.sent
-parts_hold settings trace run (suc (suc (suc (suc (suc (suc (suc n))))))) low high = absurd (omega arith)
-
 -- where a part fails, it is no recorded run
 pub a_part_fails : (settings : Settings) (trace : Trace) (number : ℕ) → IsFirstFailing settings (plan_for settings) trace number
     → IsRecordedRun settings (plan_for settings) trace.entries trace.journals → ⊥
-a_part_fails settings trace number first run = first.fails (parts_hold settings trace run number first.numbered.0 first.numbered.1)
+a_part_fails settings trace number first run = first.fails (record {
+  planned = λ e. run.planned;
+  timed = λ e. run.timed;
+  taken = λ e. run.taken;
+  freshest = λ e. run.freshest;
+  served = λ e. run.served;
+  sent = λ e. run.sent;
+})
 
 module _ (history journal : List ℕ) (settings : Settings) (s m n : Shown) (calls lines : List ℕ) (first : TakesInput history_limit history s m calls)
     (second : TakesInput journal_limit journal m n lines) where
@@ -51,17 +46,17 @@ module _ (history journal : List ℕ) (settings : Settings) (s m n : Shown) (cal
   -- the trace that was read is that of the two files
   pub trace_read_ok : (read : Result Trace TraceFault) (result : Result Trace Refusal) → (read ≡ Err trace_fault.Memory) ⊎ (read ≡ trace_of settings calls lines)
       → TraceReadsAs read result → IfOk result (λ trace. TakesRun history journal settings s n (Ok trace))
-  trace_read_ok (Ok trace) result (inl memory) as = absurd (cc)
-  trace_read_ok (Ok trace) result (inr is) as = rw as (taken (Ok trace) (sym is))
-  trace_read_ok (Err fault) result either as = rw as tt
+  trace_read_ok (Ok trace) result (inl memory) is_read = absurd (cc)
+  trace_read_ok (Ok trace) result (inr is) is_read = rw is_read (taken (Ok trace) (sym is))
+  trace_read_ok (Err fault) result either is_read = rw is_read tt
 
   -- and the refusal of a fault is one of the trace
   pub trace_read_err : (read : Result Trace TraceFault) (result : Result Trace Refusal) → (read ≡ Err trace_fault.Memory) ⊎ (read ≡ trace_of settings calls lines)
       → TraceReadsAs read result → IfErr result (Shows (TraceTask history journal settings) s n)
-  trace_read_err (Ok trace) result either as = rw as tt
-  trace_read_err (Err trace_fault.Memory) result either as = rw as (counts_kept s m n first.counts second.counts)
-  trace_read_err (Err (trace_fault.History line)) result (inl memory) as = absurd (cc)
-  trace_read_err (Err (trace_fault.History line)) result (inr is) as = rw as (record {
+  trace_read_err (Ok trace) result either is_read = rw is_read tt
+  trace_read_err (Err trace_fault.Memory) result either is_read = rw is_read (counts_kept s m n first.counts second.counts)
+  trace_read_err (Err (trace_fault.History line)) result (inl memory) is_read = absurd (cc)
+  trace_read_err (Err (trace_fault.History line)) result (inr is) is_read = rw is_read (record {
     history = history;
     journal = journal;
     settings = settings;
@@ -69,8 +64,8 @@ module _ (history journal : List ℕ) (settings : Settings) (s m n : Shown) (cal
     fault_is = taken (Err (trace_fault.History line)) (sym is);
     no_memory = λ same. cc;
   })
-  trace_read_err (Err (trace_fault.Journal line)) result (inl memory) as = absurd (cc)
-  trace_read_err (Err (trace_fault.Journal line)) result (inr is) as = rw as (record {
+  trace_read_err (Err (trace_fault.Journal line)) result (inl memory) is_read = absurd (cc)
+  trace_read_err (Err (trace_fault.Journal line)) result (inr is) is_read = rw is_read (record {
     history = history;
     journal = journal;
     settings = settings;

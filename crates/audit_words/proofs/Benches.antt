@@ -70,10 +70,10 @@ was_taken : (one other : Bool) (o : Option Bench) (bench : Bench) → (if one &&
 was_taken true other o bench is = refl
 was_taken false other o bench is = absurd (cc is)
 
--- a choice of two values that are none
-none_in_either : (taken : Bool) → (if taken then None {A = Task} else None) ≡ None
-none_in_either true = refl
-none_in_either false = refl
+-- a value that is none is none, whether it is taken or not
+none_either_way : (taken : Bool) (task : Option Task) → task ≡ None → (if taken then task else None) ≡ None
+none_either_way true task none = none
+none_either_way false task none = refl
 
 -- no mode is `bench` and another
 no_other_mode : (mode : Option Text) (rows : List Row) (bench : Bench) → bench_by mode rows ≡ Some bench → task_by mode rows ≡ None
@@ -81,7 +81,7 @@ no_other_mode None rows bench is = refl
 no_other_mode (Some mode) rows bench is =
     let same = (bytes_eq-Decides mode (codes "bench")).0 (was_taken (bytes_eq mode (codes "bench")) (gives_only bench_options rows) _ bench is) in
     let IsNone : Text → Type 0 = λ mode. task_by (Some mode) rows ≡ None in
-    subst IsNone (sym same) (none_in_either (gives_only [] rows))
+    subst IsNone (sym same) (none_either_way (gives_only [] rows) None refl)
 
 -- no entries ask for a run and for another task
 no_other_task : (entries : Option (List Row)) (bench : Bench) → option_and_then bench_in entries ≡ Some bench → option_and_then task_in entries ≡ None

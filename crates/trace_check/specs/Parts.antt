@@ -1,5 +1,5 @@
 -- Whether a trace is a recorded run, or the first part of one that fails.
-use Rattle.std.specs.Prelude.{ℕ, ◌<◌, ◌≤◌, All}
+use Rattle.std.specs.Prelude.{◌≡◌, ℕ, ◌<◌, ◌≤◌, All}
 use Rattle.stale_model.specs.declared.store.Settings.{Settings}
 use Rattle.stale_model.specs.declared.store.Plan.{Plan}
 use Rattle.stale_model.specs.Journals.{IsJournal}
@@ -9,14 +9,13 @@ use Rattle.trace_check.specs.declared.judging.Part.{Part}
 use Rattle.trace_check.specs.declared.judging.Part.TheVariants.{Good, Bad}
 
 -- the part of a recorded run with this number, 1 to 6, holds of a trace
-abbrev pub PartHolds : Settings → Plan → Trace → ℕ → Type 0
-PartHolds settings plan trace 1 = ArePlanned settings plan trace.entries
-PartHolds settings plan trace 2 = AreTimed trace.entries trace.journals
-PartHolds settings plan trace 3 = All (AreTaken settings trace.journals) trace.entries
-PartHolds settings plan trace 4 = All ReadsFreshest trace.entries
-PartHolds settings plan trace 5 = (replica : ℕ) → IsJournal replica (journal_of trace.journals replica)
-PartHolds settings plan trace 6 = AreSent settings trace.entries trace.journals
-PartHolds settings plan trace _ = ⊥
+pub record PartHolds (settings : Settings) (plan : Plan) (trace : Trace) (part : ℕ) : Type 0 where
+  pub planned : part ≡ 1 → ArePlanned settings plan trace.entries
+  pub timed : part ≡ 2 → AreTimed trace.entries trace.journals
+  pub taken : part ≡ 3 → All (AreTaken settings trace.journals) trace.entries
+  pub freshest : part ≡ 4 → All ReadsFreshest trace.entries
+  pub served : part ≡ 5 → (replica : ℕ) → IsJournal replica (journal_of trace.journals replica)
+  pub sent : part ≡ 6 → AreSent settings trace.entries trace.journals
 
 -- this part fails, and each before it holds
 pub record IsFirstFailing (settings : Settings) (plan : Plan) (trace : Trace) (part : ℕ) : Type 0 where

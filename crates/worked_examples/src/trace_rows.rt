@@ -271,7 +271,7 @@ pub fn demand_trace<R: Threads + Sync + Abort + AllocGlobal>(
     )
 }
 
-// Runs the store with these options, and reads its files back with the same and with others, each of which gives a line.
+// Runs the store with these options, and reads its files back with the same and with others, each with its line.
 fn run_then_trace<R: Threads + Wait + Copy + Send + Sync + Abort + AllocGlobal + 'static>(
     rt: &R,
     options: &str,
