@@ -214,7 +214,7 @@ module _ (words : List (List ℕ)) (task : Task) (named : task_of words ≡ Some
   performed_told f is (TraceTask history journal settings) status.Done p =
       let read = trace_told f history journal settings s n (Ok p.trace) is p.taken in rw read (inl (refl, p.recorded))
   performed_told f is (TraceTask history journal settings) status.NotShown p =
-      let read = trace_told f history journal settings s n (Ok p.trace) is p.taken in rw read (inr (refl, a_part_fails settings p.trace p.number p.first))
+      let read = trace_told f history journal settings s n (Ok p.trace) is p.taken in rw read (inr (refl, a_part_fails settings p.trace p.failing p.first))
   performed_told f is (Judge file measure) status.NotShown p = absurd p
   performed_told f is (Gen workload) status.NotShown p = absurd p
   performed_told f is (Trial workload workers) status.NotShown p = absurd p

@@ -78,7 +78,7 @@ module _ (history journal : List ℕ) (settings : Settings) (s m : Shown) (out :
   performed : (found : Part) (out' : SinkShown) → FindsRun history journal settings s m found → WritesWhole (part_line found) out out'
       → Performs (TraceTask history journal settings) s m out out' (status_of_part found)
   performed part.Good out' f w = record { trace = f.trace; taken = f.taken; recorded = f.finds; line = w }
-  performed (part.Bad number) out' f w = record { trace = f.trace; taken = f.taken; number = number; first = f.finds; line = w }
+  performed (part.Bad number) out' f w = record { trace = f.trace; taken = f.taken; failing = number; first = f.finds; line = w }
 
   -- the line is written
   pub ends_traced : (found : Part) (out' : SinkShown) (answer : Status) → FindsRun history journal settings s m found → WritesWhole (part_line found) out out'

@@ -143,9 +143,9 @@ pub record CheckFails (file cert : List ℕ) (old new : Shown) (out out' : SinkS
 pub record TraceFails (history journal : List ℕ) (settings : Settings) (old new : Shown) (out out' : SinkShown) : Type 0 where
   pub trace : Trace
   pub taken : TakesRun history journal settings old new (Ok trace)
-  pub number : ℕ
-  pub first : IsFirstFailing settings (plan_for settings) trace number
-  pub line : WritesWhole (part_line (part.Bad number)) out out'
+  pub failing : ℕ
+  pub first : IsFirstFailing settings (plan_for settings) trace failing
+  pub line : WritesWhole (part_line (part.Bad failing)) out out'
 
 -- what the files of a task say does not hold: of a check and of a trace alone
 abbrev pub IsNotShown : Task → Shown → Shown → SinkShown → SinkShown → Type 0
