@@ -1,14 +1,18 @@
 -- That a status is the one which the contents of the named files ask for, where files are told and nothing fails.
-use Rattle.std.proofs.Common.{◌≡◌, ℕ, ◌<◌, true, false, List, Option, Some, None, Ok, Err, length, refl, sym, ◌∙◌, ap, inl, inr, subst, arith}
+use Rattle.std.proofs.Common.{◌≡◌, ℕ, ◌<◌, true, false, List, Option, Some, None, Result, Ok, Err, length, refl, sym, ◌∙◌, ap, inl, inr, subst, arith}
 use Rattle.std.specs.Prelude.{nat_lt, IfSome, IsSomeAnd, ◌⊎◌}
 use Rattle.stale_model.specs.declared.History.{History}
 use Rattle.stale_model.specs.declared.Verdict.{Verdict}
+use Rattle.stale_model.specs.declared.store.Settings.{Settings}
+use Rattle.trace_check.specs.declared.trace.Trace.{Trace}
+use Rattle.trace_check.specs.declared.reading.TraceFault.{TraceFault}
+use Rattle.trace_check.specs.Reading.{trace_of}
 use Rattle.history_csv.specs.Reading as history
 use Rattle.cert_text.specs.Reading as certificate
 use Rattle.audit_ports.specs.Shelf.{Shown, Files, Rose, file_at}
 use Rattle.audit_ports.specs.Sink.{SinkShown}
 use Rattle.audit_words.specs.declared.Task.{Task}
-use Rattle.audit_words.specs.declared.Task.TheVariants.{Judge, Check, Gen, Trial}
+use Rattle.audit_words.specs.declared.Task.TheVariants.{Judge, Check, Gen, Trial, Trace as TraceTask}
 use Rattle.audit_words.specs.Tasks.{task_of}
 use Rattle.audit_commands.specs.declared.refusal.Refusal.{Refusal}
 use Rattle.audit_commands.specs.declared.refusal.Refusal.TheVariants as refusal
@@ -16,12 +20,13 @@ use Rattle.audit_commands.specs.declared.status.Status.{Status}
 use Rattle.audit_commands.specs.declared.status.Status.TheVariants as status
 use Rattle.audit_commands.specs.Status.{number}
 use Rattle.audit_commands.specs.Input.{TakesInput, IsTooLong}
-use Rattle.audit_commands.specs.Audit.{history_limit, cert_limit, TakesHistory, TakesCert, TakesBoth, Input, IsInput, cert_file, history_file}
+use Rattle.audit_commands.specs.Audit.{history_limit, cert_limit, journal_limit, TakesHistory, TakesCert, TakesBoth, TakesRun, Input, IsInput, cert_file, history_file, judged_file}
 use Rattle.audit_commands.specs.Output.{WritesNamedPart}
 use Rattle.audit_commands.specs.Ends.{outside, IsUnwritten}
 use Rattle.audit_commands.specs.Steps.{Performs}
 use Rattle.audit_commands.specs.Refusals.{IsRefused, Answers}
-use Rattle.audit_commands.specs.Complete.{NothingFailed, input_in, history_in, verdicts_in_bytes, VerdictsAsk, Asks, WordsAsk, IsComplete}
+use Rattle.audit_commands.specs.Complete.{NothingFailed, input_in, history_in, verdicts_in_bytes, trace_or_status, trace_in, VerdictsAsk, Asks, WordsAsk, IsComplete}
+use Rattle.audit_commands.proofs.Tracing.{a_part_fails}
 
 told : (o : Option Files) (f : Files) (P : Files → Type 0) → o ≡ Some f → IfSome o P → P f
 told o f P is h = rw is at h
@@ -66,12 +71,36 @@ verdicts_told f cert keys m n verdicts is taken =
     let reads : certificate.read_of keys taken.bytes ≡ Ok verdicts = taken.reads in
     rw (input, reads) refl
 
--- a history that asks for a status
-asks_by_history : (f : Files) (task : Task) (asked : Status) (name : List ℕ) → history_file task ≡ Some name → history_in f name ≡ Err asked → Asks f task asked
+-- what the two files of a run read as
+trace_told : (f : Files) (history journal : List ℕ) (settings : Settings) (s n : Shown) (read : Result Trace TraceFault) → s.files ≡ Some f
+    → TakesRun history journal settings s n read → trace_in f history journal settings ≡ trace_or_status read
+trace_told f history journal settings s n read is t =
+    let first = input_told f history_limit history s t.between is t.calls t.history_input in
+    let second = input_told f journal_limit journal t.between n (t.history_input.files ∙ is) t.lines t.journal_input in
+    let reads : trace_of settings t.calls t.lines ≡ read = t.reads in
+    rw (first, second, reads) refl
+
+-- a history that is judged, and asks for a status
+asks_by_history : (f : Files) (task : Task) (asked : Status) (name : List ℕ) → judged_file task ≡ Some name → history_in f name ≡ Err asked → Asks f task asked
 asks_by_history f (Judge file measure) asked name is says = let same : file ≡ name = cc in rw (same, says) refl
 asks_by_history f (Check file cert) asked name is says = let same : file ≡ name = cc in rw (same, says) refl
 asks_by_history f (Gen workload) asked name is says = cc
 asks_by_history f (Trial workload workers) asked name is says = cc
+asks_by_history f (TraceTask history journal settings) asked name is says = cc
+
+-- a file with a history that asks for a status, whatever its bytes are
+asks_by_first : (f : Files) (task : Task) (asked : Status) (name : List ℕ) → history_file task ≡ Some name
+    → input_in history_limit (file_at f name) ≡ Err asked → Asks f task asked
+asks_by_first f (Judge file measure) asked name is says = let same : file ≡ name = cc in rw (same, says) refl
+asks_by_first f (Check file cert) asked name is says = let same : file ≡ name = cc in rw (same, says) refl
+asks_by_first f (Gen workload) asked name is says = cc
+asks_by_first f (Trial workload workers) asked name is says = cc
+asks_by_first f (TraceTask history journal settings) asked name is says = let same : history ≡ name = cc in rw (same, says) refl
+
+-- a journal file that asks for a status
+asks_by_journal : (f : Files) (history journal calls : List ℕ) (settings : Settings) (asked : Status) → input_in history_limit (file_at f history) ≡ Ok calls
+    → input_in journal_limit (file_at f journal) ≡ Err asked → Asks f (TraceTask history journal settings) asked
+asks_by_journal f history journal calls settings asked is says = rw (is, says) refl
 
 -- a certificate's file that asks for a status
 asks_by_cert : (f : Files) (file cert : List ℕ) (h : History) (asked : Status) → history_in f file ≡ Ok h
@@ -86,19 +115,25 @@ asks_by_verdicts f file cert s n h verdicts asked is both ask =
     rw (hist, certs) ask
 
 module _ (f : Files) (task : Task) (s n : Shown) (is : s.files ≡ Some f) (same : n.files ≡ s.files) where
-  -- an input, whatever of the two it is, whose file asks for this status
+  -- an input, whatever of the three it is, whose file asks for this status
   asks_by_input : (input : Input) (asked : Status) → IsInput task s input
       → ((m : Shown) → m.files ≡ Some f → n.files ≡ m.files → m ≡ input.before → input_in input.limit (file_at f input.name) ≡ Err asked) → Asks f task asked
   asks_by_input input asked (inl first) says =
       let at = says s is same (sym first.before_is) in
       let at_history : input_in history_limit (file_at f input.name) ≡ Err asked = rw first.limit_is at at in
-      asks_by_history f task asked input.name first.name_is (rw at_history refl)
-  asks_by_input input asked (inr c) says =
+      asks_by_first f task asked input.name first.name_is at_history
+  asks_by_input input asked (inr (inl c)) says =
       let files : input.before.files ≡ s.files = c.history.input.files in
       let at = says input.before (files ∙ is) (same ∙ sym files) refl in
       let at_cert : input_in cert_limit (file_at f input.name) ≡ Err asked = rw c.limit_is at at in
       let hist : history_in f c.file ≡ Ok c.h = history_told f c.file s input.before c.h is c.history in
       subst (λ t. Asks f t asked) (sym c.task_is) (asks_by_cert f c.file input.name c.h asked hist (rw at_cert refl))
+  asks_by_input input asked (inr (inr j)) says =
+      let files : input.before.files ≡ s.files = j.taken.files in
+      let at = says input.before (files ∙ is) (same ∙ sym files) refl in
+      let at_journal : input_in journal_limit (file_at f input.name) ≡ Err asked = rw j.limit_is at at in
+      let first = input_told f history_limit j.history s input.before is j.calls j.taken in
+      subst (λ t. Asks f t asked) (sym j.task_is) (asks_by_journal f j.history input.name j.calls j.settings asked first at_journal)
 
 -- a file is not none
 some_is_none : {file : List ℕ} → Some file ≡ None → ⊥
@@ -107,7 +142,8 @@ some_is_none is = cc
 -- a task with no history has no input
 no_input : (task : Task) (s : Shown) (input : Input) → history_file task ≡ None → IsInput task s input → ⊥
 no_input task s input none (inl first) = some_is_none (sym first.name_is ∙ none)
-no_input task s input none (inr c) = some_is_none (sym (ap history_file c.task_is) ∙ none)
+no_input task s input none (inr (inl c)) = some_is_none (sym (ap history_file c.task_is) ∙ none)
+no_input task s input none (inr (inr j)) = some_is_none (sym (ap history_file j.task_is) ∙ none)
 
 module _ (words : List (List ℕ)) (task : Task) (named : task_of words ≡ Some task) (s n : Shown) (o o' e e' : SinkShown) where
   Completes : Files → Status → Type 0
@@ -130,6 +166,7 @@ module _ (words : List (List ℕ)) (task : Task) (named : task_of words ≡ Some
   unwritten_fails (Check file cert) u fine = fine.out u.line.faults
   unwritten_fails (Gen workload) u fine = fine.out u.text.faults
   unwritten_fails (Trial workload workers) u fine = fine.out u.line.faults
+  unwritten_fails (TraceTask history journal settings) u fine = fine.out u.line.faults
 
   refused_told : (f : Files) → s.files ≡ Some f → (r : Refusal) (answer : Status) → IsRefused task s n o o' r → Answers r answer e e'
       → NothingFailed (outside s o e) (outside n o' e') → Completes f answer
@@ -149,6 +186,11 @@ module _ (words : List (List ℕ)) (task : Task) (named : task_of words ≡ Some
       by_asking f answer status.CertRefused says.status_is
       (subst (λ t. Asks f t status.CertRefused) (sym x.task_is) (asks_by_cert f x.file x.cert x.h status.CertRefused hist (rw (input, reads) refl)))
   refused_told f is (refusal.Cert fault) answer h (inr says) fine = inr (ap number says.status_is)
+  refused_told f is (refusal.Trace fault) answer h (inl (line, l, says)) fine =
+      let x = h.shows in
+      let read = trace_told f x.history x.journal x.settings s n (Err fault) is x.fault_is in
+      by_asking f answer status.TraceRefused says.status_is (subst (λ t. Asks f t status.TraceRefused) (sym x.task_is) (rw read refl))
+  refused_told f is (refusal.Trace fault) answer h (inr says) fine = inr (ap number says.status_is)
   refused_told f is (refusal.Missing line) answer h says fine =
       let x = h.shows in
       by_asking f answer status.Missing says.status_is (asks_by_input f task s n is h.files x.input status.Missing x.input_is
@@ -169,6 +211,10 @@ module _ (words : List (List ℕ)) (task : Task) (named : task_of words ≡ Some
   performed_told f is (Check file cert) status.NotShown p = asks_by_verdicts f file cert s n p.h p.verdicts status.NotShown is p.inputs (inr (refl, p.not_shown))
   performed_told f is (Gen workload) status.Done p = refl
   performed_told f is (Trial workload workers) status.Done p = refl
+  performed_told f is (TraceTask history journal settings) status.Done p =
+      let read = trace_told f history journal settings s n (Ok p.trace) is p.taken in rw read (inl (refl, p.recorded))
+  performed_told f is (TraceTask history journal settings) status.NotShown p =
+      let read = trace_told f history journal settings s n (Ok p.trace) is p.taken in rw read (inr (refl, a_part_fails settings p.trace p.failing p.first))
   performed_told f is (Judge file measure) status.NotShown p = absurd p
   performed_told f is (Gen workload) status.NotShown p = absurd p
   performed_told f is (Trial workload workers) status.NotShown p = absurd p
@@ -180,6 +226,7 @@ module _ (words : List (List ℕ)) (task : Task) (named : task_of words ≡ Some
   performed_told f is t status.WriteFailed p = absurd p
   performed_told f is t status.TooLong p = absurd p
   performed_told f is t status.OutOfMemory p = absurd p
+  performed_told f is t status.TraceRefused p = absurd p
 
   -- of a task with no history, a write that failed is one of the output
   unwritten_rose : (t : Task) → history_file t ≡ None → IsUnwritten t s n o o' → Rose o.faults o'.faults
@@ -187,6 +234,7 @@ module _ (words : List (List ℕ)) (task : Task) (named : task_of words ≡ Some
   unwritten_rose (Check file cert) none u = cc
   unwritten_rose (Gen workload) none u = u.text.faults
   unwritten_rose (Trial workload workers) none u = u.line.faults
+  unwritten_rose (TraceTask history journal settings) none u = cc
 
   -- a task with no history is done where it is performed
   performed_untold : (t : Task) → history_file t ≡ None → (answer : Status) → Performs t s n o o' answer → answer ≡ status.Done
@@ -195,6 +243,7 @@ module _ (words : List (List ℕ)) (task : Task) (named : task_of words ≡ Some
   performed_untold (Check file cert) none status.NotShown p = cc
   performed_untold (Gen workload) none status.NotShown p = absurd p
   performed_untold (Trial workload workers) none status.NotShown p = absurd p
+  performed_untold (TraceTask history journal settings) none status.NotShown p = cc
   performed_untold t none status.WordsRefused p = absurd p
   performed_untold t none status.HistoryRefused p = absurd p
   performed_untold t none status.CertRefused p = absurd p
@@ -203,12 +252,14 @@ module _ (words : List (List ℕ)) (task : Task) (named : task_of words ≡ Some
   performed_untold t none status.WriteFailed p = absurd p
   performed_untold t none status.TooLong p = absurd p
   performed_untold t none status.OutOfMemory p = absurd p
+  performed_untold t none status.TraceRefused p = absurd p
 
   -- of a task with no history, nothing but a failed write and a want of memory is refused
   refused_untold : history_file task ≡ None → (r : Refusal) (answer : Status) → IsRefused task s n o o' r → Answers r answer e e'
       → (Rose o.faults o'.faults → ⊥) → number answer ≡ number status.OutOfMemory
   refused_untold none (refusal.History fault) answer h says fine = absurd (some_is_none (sym h.shows.file_is ∙ none))
   refused_untold none (refusal.Cert fault) answer h says fine = absurd (some_is_none (sym (ap history_file h.shows.task_is) ∙ none))
+  refused_untold none (refusal.Trace fault) answer h says fine = absurd (some_is_none (sym (ap history_file h.shows.task_is) ∙ none))
   refused_untold none (refusal.Missing line) answer h says fine = absurd (no_input task s h.shows.input none h.shows.input_is)
   refused_untold none refusal.ReadFailed answer h says fine = absurd (some_is_none (sym h.shows.file_is ∙ none))
   refused_untold none refusal.WriteFailed answer h says fine = absurd (fine (unwritten_rose task none h))

@@ -45,6 +45,23 @@ module _ (words : List (List ℕ)) (task : Task) (asked : task_of words ≡ Some
         counts = counts_kept s f.taken s' f.history.input.counts f.fault_is.input.counts;
         refuses = record { files = h.files; out = h.same; says = says.says };
       })
+  refused (refusal.Trace fault) answer h (inl (line, is, says)) =
+      let f = h.shows in
+      rw says.status_is (record {
+        history = f.history;
+        journal = f.journal;
+        settings = f.settings;
+        asked = asked ∙ ap Some f.task_is;
+        fault = fault;
+        fault_is = f.fault_is;
+        refuses = rw is (record { files = h.files; out = h.same; says = says.says });
+      })
+  refused (refusal.Trace fault) answer h (inr says) =
+      let f = h.shows.fault_is in
+      rw says.status_is (record {
+        counts = counts_kept s f.between s' f.history_input.counts f.journal_input.counts;
+        refuses = record { files = h.files; out = h.same; says = says.says };
+      })
   refused (refusal.Missing line) answer h says =
       let m = h.shows in
       rw says.status_is (record {

@@ -30,7 +30,7 @@ module _ (file : List ℕ) (measure : Measure) (s m : Shown) (out : SinkShown) (
     untouched = λ none. cc;
     faults = omega arith;
     done = tt;
-    refused = refused_before (Judge file measure) s m out r (history_shows (Judge file measure) file refl s m r shows) reads.keeps.files;
+    refused = refused_before (Judge file measure) s m out r (history_shows (Judge file measure) file refl s m refl r shows) reads.keeps.files;
   }
 
   -- the outputs are not, or not wholly, written

@@ -8,3 +8,4 @@ pub mod Generating
 pub mod Completing
 pub mod Chains
 pub mod Written
+pub mod Tracing

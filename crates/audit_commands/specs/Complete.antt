@@ -5,18 +5,24 @@ use Rattle.stale_model.specs.declared.History.{History}
 use Rattle.stale_model.specs.declared.Verdict.{Verdict}
 use Rattle.stale_model.specs.Truth.{EachKeyHas}
 use Rattle.stale_model.specs.Shown.{IsShown}
+use Rattle.stale_model.specs.declared.store.Settings.{Settings}
+use Rattle.stale_model.specs.RecordedRuns.{IsRecordedRun}
 use Rattle.history_csv.specs.declared.HistoryFault.{HistoryFault}
 use Rattle.history_csv.specs.Reading as history
 use Rattle.cert_text.specs.declared.CertFault.{CertFault}
 use Rattle.cert_text.specs.Reading as certificate
+use Rattle.quorum_client.specs.Plans.{plan_for}
+use Rattle.trace_check.specs.declared.trace.Trace.{Trace}
+use Rattle.trace_check.specs.declared.reading.TraceFault.{TraceFault}
+use Rattle.trace_check.specs.Reading.{trace_of}
 use Rattle.audit_ports.specs.Shelf.{Files, Rose, file_at}
 use Rattle.audit_words.specs.declared.Task.{Task}
-use Rattle.audit_words.specs.declared.Task.TheVariants.{Judge, Check, Gen, Trial}
+use Rattle.audit_words.specs.declared.Task.TheVariants.{Judge, Check, Gen, Trial, Trace as TraceTask}
 use Rattle.audit_words.specs.Tasks.{task_of}
 use Rattle.audit_commands.specs.declared.status.Status.{Status}
 use Rattle.audit_commands.specs.declared.status.Status.TheVariants as status
 use Rattle.audit_commands.specs.Status.{number}
-use Rattle.audit_commands.specs.Audit.{history_limit, cert_limit, history_file}
+use Rattle.audit_commands.specs.Audit.{history_limit, cert_limit, journal_limit, history_file}
 use Rattle.audit_commands.specs.Ends.{Outside}
 
 -- no read failed in the call, and no write
@@ -61,6 +67,29 @@ abbrev pub CheckAsks : Result History Status → Option (List ℕ) → Status �
 CheckAsks (Err s) content asked = asked ≡ s
 CheckAsks (Ok h) content asked = VerdictsAsk h.keys (verdicts_in_bytes (length h.keys) (input_in cert_limit content)) asked
 
+-- the trace that was read, or the status of its fault
+abbrev pub trace_or_status : Result Trace TraceFault → Result Trace Status
+trace_or_status (Ok trace) = Ok trace
+trace_or_status (Err fault) = Err status.TraceRefused
+
+-- the trace in two files, or the status that the files ask for, the history first
+abbrev pub trace_in_bytes : Settings → Result (List ℕ) Status → Result (List ℕ) Status → Result Trace Status
+trace_in_bytes settings (Err s) journal = Err s
+trace_in_bytes settings (Ok calls) (Err s) = Err s
+trace_in_bytes settings (Ok calls) (Ok lines) = trace_or_status (trace_of settings calls lines)
+
+-- the trace in the files of these names, or the status that the files ask for
+abbrev pub trace_in : Files → List ℕ → List ℕ → Settings → Result Trace Status
+trace_in files history journal settings =
+    trace_in_bytes settings (input_in history_limit (file_at files history)) (input_in journal_limit (file_at files journal))
+
+-- done where a trace is a recorded run of the plan of these settings, and not shown where it isn't
+abbrev pub TraceAsks : Settings → Result Trace Status → Status → Type 0
+TraceAsks settings (Err s) asked = asked ≡ s
+TraceAsks settings (Ok trace) asked =
+    ((asked ≡ status.Done) × IsRecordedRun settings (plan_for settings) trace.entries trace.journals)
+    ⊎ ((asked ≡ status.NotShown) × (IsRecordedRun settings (plan_for settings) trace.entries trace.journals → ⊥))
+
 -- what a history asks for that is judged, whatever the measure
 abbrev pub JudgeAsks : Result History Status → Status → Type 0
 JudgeAsks (Err s) asked = asked ≡ s
@@ -76,6 +105,7 @@ Asks files (Judge file measure) asked = JudgeAsks (history_in files file) asked
 Asks files (Check file cert) asked = CheckAsks (history_in files file) (file_at files cert) asked
 Asks files (Gen workload) asked = asked ≡ status.Done
 Asks files (Trial workload workers) asked = asked ≡ status.Done
+Asks files (TraceTask history journal settings) asked = TraceAsks settings (trace_in files history journal settings) asked
 
 -- the status that words ask for over these files
 abbrev pub WordsAsk : Files → Option Task → Status → Type 0

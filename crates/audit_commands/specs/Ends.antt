@@ -1,7 +1,9 @@
 -- How a call of the program ends: what each status means.
-use Rattle.std.specs.Prelude.{◌≡◌, ◌≢◌, ◌⊎◌, ℕ, ◌≤◌, List, Option, Some, None, IsSomeAnd, length}
+use Rattle.std.specs.Prelude.{◌≡◌, ◌≢◌, ◌⊎◌, ℕ, ◌≤◌, List, Option, Some, None, Ok, Err, IsSomeAnd, length}
 use Rattle.stale_model.specs.declared.History.{History}
 use Rattle.stale_model.specs.declared.Verdict.{Verdict}
+use Rattle.stale_model.specs.declared.store.Settings.{Settings}
+use Rattle.stale_model.specs.RecordedRuns.{IsRecordedRun}
 use Rattle.stale_model.specs.Truth.{EachKeyHas, IsTrueOf}
 use Rattle.stale_model.specs.Shown.{IsShown}
 use Rattle.history_csv.specs.declared.HistoryFault.{HistoryFault}
@@ -9,10 +11,16 @@ use Rattle.cert_text.specs.declared.CertFault.{CertFault}
 use Rattle.cert_checker.specs.declared.Checked.{Checked}
 use Rattle.cert_checker.specs.declared.Checked.TheVariants as checked
 use Rattle.cert_checker.specs.KeyFaults.{IsFirstBad, FindsAll}
+use Rattle.quorum_client.specs.Plans.{plan_for}
+use Rattle.trace_check.specs.declared.trace.Trace.{Trace}
+use Rattle.trace_check.specs.declared.judging.Part.{Part}
+use Rattle.trace_check.specs.declared.judging.Part.TheVariants as part
+use Rattle.trace_check.specs.declared.reading.TraceFault.{TraceFault}
+use Rattle.trace_check.specs.Parts.{IsFirstFailing, IsPartOf}
 use Rattle.audit_ports.specs.Shelf.{Shown, Files, KeepsCounts, Misses, FailsReading, WhereTold, file_at}
 use Rattle.audit_ports.specs.Sink.{SinkShown}
 use Rattle.audit_words.specs.declared.Task.{Task}
-use Rattle.audit_words.specs.declared.Task.TheVariants.{Judge, Check, Gen, Trial}
+use Rattle.audit_words.specs.declared.Task.TheVariants.{Judge, Check, Gen, Trial, Trace as TraceTask}
 use Rattle.audit_words.specs.declared.Measure.{Measure}
 use Rattle.audit_words.specs.Tasks.{task_of}
 use Rattle.audit_commands.specs.declared.status.Status.{Status}
@@ -22,10 +30,10 @@ use Rattle.audit_commands.specs.declared.texts.Texts.{Texts}
 use Rattle.audit_commands.specs.Input.{IsTooLong}
 use Rattle.command_outputs.specs.Output.{WritesWhole, WritesPart}
 use Rattle.audit_commands.specs.Output.{WritesNamed, WritesNamedPart}
-use Rattle.audit_commands.specs.Audit.{TakesHistory, IsFaultOf, IsCertFaultOf, TakesBoth, AreTextsOf, Input, IsInput, cert_file, history_file, output_file}
+use Rattle.audit_commands.specs.Audit.{TakesHistory, IsFaultOf, IsCertFaultOf, TakesBoth, TakesRun, AreTextsOf, Input, IsInput, cert_file, history_file, judged_file, output_file}
 use Rattle.audit_commands.specs.Generated.{GenDone, TrialDone, GenUnwritten, TrialUnwritten}
 use Rattle.command_outputs.specs.Lines.{SaysLine, write_failed_line, memory_line}
-use Rattle.audit_commands.specs.Lines.{check_line, words_line, fault_line, cert_fault_line, missing_line, too_long_line, read_failed_line}
+use Rattle.audit_commands.specs.Lines.{check_line, part_line, words_line, fault_line, cert_fault_line, trace_fault_line, missing_line, too_long_line, read_failed_line}
 
 -- what is known of the outside: of the shelf, of the output and of the error output
 pub record Outside : Type 0 where
@@ -97,12 +105,20 @@ pub record CheckDone (file cert : List ℕ) (old new : Shown) (out out' : SinkSh
   pub shown : EachKeyHas IsShown h.keys verdicts
   pub line : WritesWhole (check_line checked.Good) out out'
 
+-- a trace is good: the files that were taken are a recorded run of the plan of its settings, and the output gained `good`
+pub record TraceDone (history journal : List ℕ) (settings : Settings) (old new : Shown) (out out' : SinkShown) : Type 0 where
+  pub trace : Trace
+  pub taken : TakesRun history journal settings old new (Ok trace)
+  pub recorded : IsRecordedRun settings (plan_for settings) trace.entries trace.journals
+  pub line : WritesWhole (part_line part.Good) out out'
+
 -- what a task asks for was done
 abbrev pub IsDone : Task → Shown → Shown → SinkShown → SinkShown → Type 0
 IsDone (Judge file measure) old new out out' = JudgeDone file measure old new out out'
 IsDone (Check file cert) old new out out' = CheckDone file cert old new out out'
 IsDone (Gen workload) old new out out' = GenDone workload old new out out'
 IsDone (Trial workload workers) old new out out' = TrialDone workload old new out out'
+IsDone (TraceTask history journal settings) old new out out' = TraceDone history journal settings old new out out'
 
 -- done, as the words ask
 pub record EndsDone (words : List (List ℕ)) (old new : Outside) : Type 0 where
@@ -123,12 +139,27 @@ pub record CheckFails (file cert : List ℕ) (old new : Shown) (out out' : SinkS
   pub first : IsFirstBad h.keys verdicts key rule rec
   pub line : WritesWhole (check_line (checked.Bad key rule rec)) out out'
 
--- some verdict of the certificate that the words name isn't shown
+-- the files that were taken are no recorded run of the plan of these settings: the output gained the line on the first part that fails
+pub record TraceFails (history journal : List ℕ) (settings : Settings) (old new : Shown) (out out' : SinkShown) : Type 0 where
+  pub trace : Trace
+  pub taken : TakesRun history journal settings old new (Ok trace)
+  pub failing : ℕ
+  pub first : IsFirstFailing settings (plan_for settings) trace failing
+  pub line : WritesWhole (part_line (part.Bad failing)) out out'
+
+-- what the files of a task say does not hold: of a check and of a trace alone
+abbrev pub IsNotShown : Task → Shown → Shown → SinkShown → SinkShown → Type 0
+IsNotShown (Judge file measure) old new out out' = ⊥
+IsNotShown (Check file cert) old new out out' = CheckFails file cert old new out out'
+IsNotShown (Gen workload) old new out out' = ⊥
+IsNotShown (Trial workload workers) old new out out' = ⊥
+IsNotShown (TraceTask history journal settings) old new out out' = TraceFails history journal settings old new out out'
+
+-- some verdict of the certificate that the words name isn't shown, or the run that they name is none
 pub record EndsNotShown (words : List (List ℕ)) (old new : Outside) : Type 0 where
-  pub file : List ℕ
-  pub cert : List ℕ
-  pub asked : task_of words ≡ Some (Check file cert)
-  pub fails : CheckFails file cert old.shelf new.shelf old.out new.out
+  pub task : Task
+  pub asked : task_of words ≡ Some task
+  pub fails : IsNotShown task old.shelf new.shelf old.out new.out
   pub err : new.err ≡ old.err
 
 -- the words are refused: nothing was done, and the line says so
@@ -142,7 +173,7 @@ pub record EndsHistoryRefused (words : List (List ℕ)) (old new : Outside) : Ty
   pub task : Task
   pub asked : task_of words ≡ Some task
   pub file : List ℕ
-  pub file_is : history_file task ≡ Some file
+  pub file_is : judged_file task ≡ Some file
   pub fault : HistoryFault
   pub fault_is : IsFaultOf file old.shelf new.shelf fault
   pub refuses : IsSomeAnd (fault_line fault) (λ line. Refuses line old new)
@@ -158,6 +189,16 @@ pub record EndsCertRefused (words : List (List ℕ)) (old new : Outside) : Type 
   pub fault : CertFault
   pub fault_is : IsCertFaultOf cert (length h.keys) taken new.shelf fault
   pub refuses : IsSomeAnd (cert_fault_line fault) (λ line. Refuses line old new)
+
+-- the two files of the run that the words name are refused by their first line at fault, which the line says
+pub record EndsTraceRefused (words : List (List ℕ)) (old new : Outside) : Type 0 where
+  pub history : List ℕ
+  pub journal : List ℕ
+  pub settings : Settings
+  pub asked : task_of words ≡ Some (TraceTask history journal settings)
+  pub fault : TraceFault
+  pub fault_is : TakesRun history journal settings old.shelf new.shelf (Err fault)
+  pub refuses : IsSomeAnd (trace_fault_line fault) (λ line. Refuses line old new)
 
 -- an input that the words and the line name is missing, and those before it have no fault
 pub record EndsMissing (words : List (List ℕ)) (old new : Outside) : Type 0 where
@@ -192,12 +233,21 @@ pub record CheckUnwritten (file cert : List ℕ) (old new : Shown) (out out' : S
   pub finds : FindsAll h.keys verdicts found
   pub line : WritesPart (check_line found) out out'
 
+-- a call of writing the line of a trace failed
+pub record TraceUnwritten (history journal : List ℕ) (settings : Settings) (old new : Shown) (out out' : SinkShown) : Type 0 where
+  pub trace : Trace
+  pub taken : TakesRun history journal settings old new (Ok trace)
+  pub found : Part
+  pub finds : IsPartOf settings (plan_for settings) trace found
+  pub line : WritesPart (part_line found) out out'
+
 -- what a task asks for was made, and not, or not wholly, written
 abbrev pub IsUnwritten : Task → Shown → Shown → SinkShown → SinkShown → Type 0
 IsUnwritten (Judge file measure) old new out out' = JudgeUnwritten file measure old new out out'
 IsUnwritten (Check file cert) old new out out' = CheckUnwritten file cert old new out out'
 IsUnwritten (Gen workload) old new out out' = GenUnwritten workload old new out out'
 IsUnwritten (Trial workload workers) old new out out' = TrialUnwritten workload old new out out'
+IsUnwritten (TraceTask history journal settings) old new out out' = TraceUnwritten history journal settings old new out out'
 
 -- a write failed, and the line says so
 pub record EndsWriteFailed (words : List (List ℕ)) (old new : Outside) : Type 0 where
@@ -232,6 +282,7 @@ Ends words old new status.ReadFailed = EndsReadFailed words old new
 Ends words old new status.WriteFailed = EndsWriteFailed words old new
 Ends words old new status.TooLong = EndsTooLong words old new
 Ends words old new status.OutOfMemory = EndsOutOfMemory old new
+Ends words old new status.TraceRefused = EndsTraceRefused words old new
 
 -- the call ended as this number of a status means
 pub record EndsAs (words : List (List ℕ)) (old new : Outside) (answer : ℕ) : Type 0 where

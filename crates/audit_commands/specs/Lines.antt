@@ -1,4 +1,4 @@
--- The lines of a check, and the line that is written to the error output after a refusal.
+-- The lines of a check and of a trace, and the line that is written to the error output after a refusal.
 use Rattle.std.specs.Prelude.{ℕ, List, ◌++◌, Option, Some, None, codes}
 use Rattle.std.specs.Fmt.{decimal}
 use Rattle.history_csv.specs.declared.HistoryFault.{HistoryFault}
@@ -8,6 +8,10 @@ use Rattle.cert_text.specs.declared.CertFault.{CertFault}
 use Rattle.cert_text.specs.declared.CertFault.TheVariants as cert_fault
 use Rattle.cert_checker.specs.declared.Checked.{Checked}
 use Rattle.cert_checker.specs.declared.Checked.TheVariants as checked
+use Rattle.trace_check.specs.declared.judging.Part.{Part}
+use Rattle.trace_check.specs.declared.judging.Part.TheVariants as part
+use Rattle.trace_check.specs.declared.reading.TraceFault.{TraceFault}
+use Rattle.trace_check.specs.declared.reading.TraceFault.TheVariants as trace_fault
 use Rattle.staleness_report.specs.Escaped.{escaped}
 
 -- the line of a check: `good`, or the first key that isn't, its first broken rule, and the record that is named
@@ -15,6 +19,11 @@ abbrev pub check_line : Checked → List ℕ
 check_line checked.Good = codes "good\n"
 check_line (checked.Bad key rule rec) =
     codes "bad key " ++ decimal key ++ codes " rule " ++ decimal rule ++ codes " record " ++ decimal rec ++ codes "\n"
+
+-- the line of a trace: `good`, or the first part of a recorded run that fails
+abbrev pub part_line : Part → List ℕ
+part_line part.Good = codes "good\n"
+part_line (part.Bad number) = codes "bad trace part " ++ decimal number ++ codes "\n"
 
 -- the line on a record at fault
 abbrev pub record_line : ℕ → List ℕ → List ℕ
@@ -46,6 +55,16 @@ cert_fault_line (cert_fault.Number number) = Some (cert_line number (codes "numb
 cert_fault_line (cert_fault.Key number) = Some (cert_line number (codes "key"))
 cert_fault_line (cert_fault.Absent key) = Some (codes "certificate: key " ++ decimal key ++ codes " absent\n")
 cert_fault_line cert_fault.Memory = None
+
+-- the line on a line at fault of the file of this kind
+abbrev pub trace_line : List ℕ → ℕ → List ℕ
+trace_line kind number = codes "trace " ++ kind ++ codes " line " ++ decimal number ++ codes "\n"
+
+-- the line on a fault of the two files of a run; want of memory is none, and has no line
+abbrev pub trace_fault_line : TraceFault → Option (List ℕ)
+trace_fault_line (trace_fault.History number) = Some (trace_line (codes "history") number)
+trace_fault_line (trace_fault.Journal number) = Some (trace_line (codes "journal") number)
+trace_fault_line trace_fault.Memory = None
 
 -- the line on words that are refused
 abbrev pub words_line : List ℕ

@@ -7,11 +7,15 @@ use Rattle.history_csv.specs.declared.HistoryFault.{HistoryFault}
 use Rattle.history_csv.specs.declared.HistoryFault.TheVariants as history_fault
 use Rattle.cert_text.specs.declared.CertFault.{CertFault}
 use Rattle.cert_text.specs.declared.CertFault.TheVariants as cert_fault
+use Rattle.stale_model.specs.declared.store.Settings.{Settings}
+use Rattle.trace_check.specs.declared.trace.Trace.{Trace}
+use Rattle.trace_check.specs.declared.reading.TraceFault.{TraceFault}
+use Rattle.trace_check.specs.declared.reading.TraceFault.TheVariants as trace_fault
 use Rattle.audit_ports.specs.declared.Failed.{Failed}
 use Rattle.audit_ports.specs.Shelf.{Shown, KeepsCounts, Misses, FailsReading}
 use Rattle.audit_ports.specs.Sink.{SinkShown}
 use Rattle.audit_words.specs.declared.Task.{Task}
-use Rattle.audit_words.specs.declared.Task.TheVariants.{Check}
+use Rattle.audit_words.specs.declared.Task.TheVariants.{Check, Trace as TraceTask}
 use Rattle.audit_commands.specs.declared.status.Status.{Status}
 use Rattle.audit_commands.specs.declared.status.Status.TheVariants as status
 use Rattle.audit_commands.specs.declared.refusal.Refusal.{Refusal}
@@ -20,11 +24,11 @@ use Rattle.audit_commands.specs.declared.texts.Texts.{Texts}
 use Rattle.audit_commands.specs.Input.{IsTooLong}
 use Rattle.command_outputs.specs.Output.{WritesWhole, WritesPart}
 use Rattle.audit_commands.specs.Output.{WritesNamed, WritesNamedPart}
-use Rattle.audit_commands.specs.Audit.{history_limit, cert_limit, TakesHistory, IsFaultOf, IsCertFaultOf, Input, IsInput, history_file, output_file}
+use Rattle.audit_commands.specs.Audit.{history_limit, cert_limit, TakesHistory, IsFaultOf, IsCertFaultOf, TakesRun, Input, IsInput, history_file, judged_file, output_file}
 use Rattle.audit_commands.specs.Ends.{KeepsShelf, IsUnwritten}
 use Rattle.audit_commands.specs.Steps.{Performs}
 use Rattle.command_outputs.specs.Lines.{write_failed_line, memory_line, SaysLine}
-use Rattle.audit_commands.specs.Lines.{fault_line, cert_fault_line, missing_line, too_long_line, read_failed_line}
+use Rattle.audit_commands.specs.Lines.{fault_line, cert_fault_line, trace_fault_line, missing_line, too_long_line, read_failed_line}
 
 -- the refusal that a fault of reading a history is
 abbrev pub refusal_of : HistoryFault → Refusal
@@ -46,6 +50,16 @@ abbrev pub CertReadsAs : Result (List Verdict) CertFault → Result (List Verdic
 CertReadsAs (Ok verdicts) result = result ≡ Ok verdicts
 CertReadsAs (Err fault) result = result ≡ Err (cert_refusal_of fault)
 
+-- the refusal that a fault of reading the two files of a run is
+abbrev pub trace_refusal_of : TraceFault → Refusal
+trace_refusal_of trace_fault.Memory = refusal.Memory
+trace_refusal_of other = refusal.Trace other
+
+-- the trace, or the refusal that its fault is
+abbrev pub TraceReadsAs : Result Trace TraceFault → Result Trace Refusal → Type 0
+TraceReadsAs (Ok trace) result = result ≡ Ok trace
+TraceReadsAs (Err fault) result = result ≡ Err (trace_refusal_of fault)
+
 -- a fault that has a line: it is no want of memory, and a column that it names is one of a history
 pub record HasLine (fault : HistoryFault) : Type 0 where
   pub no_memory : fault ≢ history_fault.Memory
@@ -55,6 +69,7 @@ pub record HasLine (fault : HistoryFault) : Type 0 where
 abbrev pub CanBeSaid : Refusal → Type 0
 CanBeSaid (refusal.History fault) = HasLine fault
 CanBeSaid (refusal.Cert fault) = fault ≢ cert_fault.Memory
+CanBeSaid (refusal.Trace fault) = fault ≢ trace_fault.Memory
 CanBeSaid _ = ⊤
 
 -- the file of this name is missing, and this is the line on it
@@ -96,10 +111,19 @@ pub record ShowsCertFault (task : Task) (old new : Shown) (fault : CertFault) : 
   pub fault_is : IsCertFaultOf cert (length h.keys) taken new fault
   pub no_memory : fault ≢ cert_fault.Memory
 
+-- the two files of a trace were taken, and have this fault
+pub record ShowsTraceFault (task : Task) (old new : Shown) (fault : TraceFault) : Type 0 where
+  pub history : List ℕ
+  pub journal : List ℕ
+  pub settings : Settings
+  pub task_is : task ≡ TraceTask history journal settings
+  pub fault_is : TakesRun history journal settings old new (Err fault)
+  pub no_memory : fault ≢ trace_fault.Memory
+
 -- the task's history has this fault
 pub record ShowsHistoryFault (task : Task) (old new : Shown) (fault : HistoryFault) : Type 0 where
   pub file : List ℕ
-  pub file_is : history_file task ≡ Some file
+  pub file_is : judged_file task ≡ Some file
   pub fault_is : IsFaultOf file old new fault
   pub line : HasLine fault
 
@@ -119,6 +143,7 @@ pub record ShowsInput (Says : Input → Type 0) (task : Task) (old : Shown) : Ty
 abbrev pub Shows : Task → Shown → Shown → Refusal → Type 0
 Shows task old new (refusal.History fault) = ShowsHistoryFault task old new fault
 Shows task old new (refusal.Cert fault) = ShowsCertFault task old new fault
+Shows task old new (refusal.Trace fault) = ShowsTraceFault task old new fault
 Shows task old new (refusal.Missing line) = ShowsInput (λ input. ShowsMissing input.name input.before new line) task old
 Shows task old new refusal.ReadFailed = ShowsReadFailed task old new
 Shows task old new refusal.WriteFailed = ⊥
@@ -170,6 +195,7 @@ SaysFault fault_says refused result old new =
 abbrev pub Answers : Refusal → Status → SinkShown → SinkShown → Type 0
 Answers (refusal.History fault) result old new = SaysFault (fault_line fault) status.HistoryRefused result old new
 Answers (refusal.Cert fault) result old new = SaysFault (cert_fault_line fault) status.CertRefused result old new
+Answers (refusal.Trace fault) result old new = SaysFault (trace_fault_line fault) status.TraceRefused result old new
 Answers (refusal.Missing line) result old new = Says status.Missing line result old new
 Answers refusal.ReadFailed result old new = Says status.ReadFailed read_failed_line result old new
 Answers refusal.WriteFailed result old new = Says status.WriteFailed write_failed_line result old new

@@ -15,3 +15,4 @@ number status.ReadFailed = 6
 number status.WriteFailed = 7
 number status.TooLong = 8
 number status.OutOfMemory = 10
+number status.TraceRefused = 11

@@ -1,7 +1,13 @@
 -- Definitions that serve the code alone: the steps of a command.
-use Rattle.std.specs.Prelude.{◌≡◌, ℕ, List, length, take, Some, IfSome, IsSome}
+use Rattle.std.specs.Prelude.{◌≡◌, ℕ, List, length, take, Some, Ok, IfSome, IsSome}
 use Rattle.stale_model.specs.declared.History.{History}
 use Rattle.stale_model.specs.declared.Verdict.{Verdict}
+use Rattle.stale_model.specs.declared.store.Settings.{Settings}
+use Rattle.quorum_client.specs.Plans.{plan_for}
+use Rattle.trace_check.specs.declared.trace.Trace.{Trace}
+use Rattle.trace_check.specs.declared.judging.Part.{Part}
+use Rattle.trace_check.specs.declared.judging.Part.TheVariants as part
+use Rattle.trace_check.specs.Parts.{IsPartOf}
 use Rattle.audit_ports.specs.Shelf.{Shown, KeepsFiles, KeepsCounts, file_at}
 use Rattle.audit_ports.specs.Sink.{SinkShown}
 use Rattle.audit_ports.specs.declared.OpenFault.{OpenFault}
@@ -11,13 +17,12 @@ use Rattle.cert_checker.specs.declared.Checked.{Checked}
 use Rattle.cert_checker.specs.declared.Checked.TheVariants as checked
 use Rattle.cert_checker.specs.KeyFaults.{FindsAll}
 use Rattle.audit_words.specs.declared.Task.{Task}
-use Rattle.audit_words.specs.declared.Task.TheVariants.{Judge, Check, Gen, Trial}
 use Rattle.audit_commands.specs.declared.input.TakeFault.{TakeFault}
 use Rattle.audit_commands.specs.declared.input.TakeFault.TheVariants as taking
 use Rattle.audit_commands.specs.declared.status.Status.{Status}
 use Rattle.audit_commands.specs.declared.status.Status.TheVariants as status
-use Rattle.audit_commands.specs.Audit.{TakesBoth}
-use Rattle.audit_commands.specs.Ends.{IsDone, CheckFails}
+use Rattle.audit_commands.specs.Audit.{TakesBoth, TakesRun}
+use Rattle.audit_commands.specs.Ends.{IsDone, IsNotShown}
 
 -- the fault of taking that a fault of opening is
 abbrev pub take_fault_of : OpenFault → TakeFault
@@ -51,15 +56,23 @@ abbrev pub status_of_check : Checked → Status
 status_of_check checked.Good = status.Done
 status_of_check (checked.Bad key rule rec) = status.NotShown
 
--- the check of a task found a verdict that isn't shown
-abbrev pub FindsNotShown : Task → Shown → Shown → SinkShown → SinkShown → Type 0
-FindsNotShown (Judge file measure) old new out out' = ⊥
-FindsNotShown (Check file cert) old new out out' = CheckFails file cert old new out out'
-FindsNotShown (Gen workload) old new out out' = ⊥
-FindsNotShown (Trial workload workers) old new out out' = ⊥
+-- the two files of a run were taken, and this is the trace in them
+abbrev pub IsTraceIn : (history journal : List ℕ) (settings : Settings) (old new : Shown) → Trace → Type 0
+IsTraceIn history journal settings old new trace = TakesRun history journal settings old new (Ok trace)
+
+-- the two files of a run were taken, and this is found of it
+pub record FindsRun (history journal : List ℕ) (settings : Settings) (old new : Shown) (found : Part) : Type 0 where
+  pub trace : Trace
+  pub taken : TakesRun history journal settings old new (Ok trace)
+  pub finds : IsPartOf settings (plan_for settings) trace found
+
+-- the status of what was found of a run
+abbrev pub status_of_part : Part → Status
+status_of_part part.Good = status.Done
+status_of_part (part.Bad number) = status.NotShown
 
 -- what was done of a task, by the status
 abbrev pub Performs : Task → Shown → Shown → SinkShown → SinkShown → Status → Type 0
 Performs task old new out out' status.Done = IsDone task old new out out'
-Performs task old new out out' status.NotShown = FindsNotShown task old new out out'
+Performs task old new out out' status.NotShown = IsNotShown task old new out out'
 Performs task old new out out' _ = ⊥

@@ -14,7 +14,7 @@ use stale_model::History;
 use std::alloc::Global;
 
 /// The greatest length of a history file, in bytes.
-const HISTORY_LIMIT: usize = 67_108_864;
+pub(crate) const HISTORY_LIMIT: usize = 67_108_864;
 
 // The history that was read, or the refusal that its fault is.
 fn history_of(read: Result<History, HistoryFault>) -> Result<History, Refusal>

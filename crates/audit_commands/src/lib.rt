@@ -20,11 +20,13 @@ mod laws;
 mod refusal;
 mod status;
 mod texts;
+mod trace;
 
 use crate::check::check;
 use crate::generated::{generate, trial};
 use crate::judge::judge;
 use crate::refusal::{Refusal, end, end_without_memory, refuse};
+use crate::trace::trace;
 use audit_ports::{Gate, Shelf, Sink};
 use audit_words::{Task, Word, task_of};
 pub use laws::written_certificates_are_good;
@@ -52,6 +54,11 @@ fn perform<R: Threads + Sync, S: Shelf, O: Sink, G: Gate>(
         Task::Check { file, cert } => check(alloc, file, cert, shelf, out),
         Task::Gen(workload) => generate(alloc, *workload, out),
         Task::Trial { workload, workers } => trial(rt, alloc, *workload, *workers, out, gate),
+        Task::Trace {
+            history,
+            journal,
+            settings,
+        } => trace(alloc, history, journal, settings, shelf, out),
     }
 }
 
@@ -62,32 +69,40 @@ fn perform<R: Threads + Sync, S: Shelf, O: Sink, G: Gate>(
 /// - `two FILE`: the least Δ for 2-atomicity of each key of the history in FILE is written to `out`, with what shows it.
 /// - `sides FILE`: the least number of ticks by which both ends of the operations have to be moved is written to `out`
 ///   for each key of the history in FILE, with what shows it.
+/// - `live FILE`: the operations of each key of the history in FILE are taken in the order in which they finished, and a
+///   line is written to `out` wherever the least Δ of those so far changes.
 /// - `check FILE CERT`: the certificate in CERT is checked against the history in FILE, and `good` or the first key that
 ///   isn't is written to `out`.
 /// - `gen SEED OPS KEYS`: the generated history of OPS operations on KEYS keys is written to `out`. It is the same for
 ///   the same three numbers.
 /// - `trial SEED OPS KEYS [--workers N]`: that history is judged, and the last line of the report on it is written to
 ///   `out`.
+/// - `trace HISTORY JOURNAL [options]`: the two files are read as those of a run of the store with the settings of the
+///   options, and `good` or the first part of a recorded run that fails is written to `out`.
 ///
-/// Files are read from `shelf`, at most 67,108,864 bytes of a history and 268,435,456 of a certificate. It must not be
+/// Files are read from `shelf`, at most 67,108,864 bytes of a history and 268,435,456 of a certificate or a journal file.
+/// The two files of `trace` are read whole before a line of either is looked at. The shelf must not be
 /// writing a file. All text is made before the first output: OUT, what it held is lost, and then `out`. In
 /// `audit` and `trial` the gate is passed round each judgement. After a refusal one line is written to `err`, which says why.
 ///
 /// # Statuses
 /// - 0: done. What was asked for was written and handed on, and nothing else.
-/// - 1: `check` alone: some verdict of the certificate isn't shown, and `out` gained the line on the first one.
+/// - 1: `check` and `trace` alone: some verdict of the certificate isn't shown, or the files are no recorded run of the
+///   plan, and `out` gained the line on the first verdict or part that fails.
 /// - 2: the words are others. Nothing was opened.
-/// - 3: FILE is no history; the line names its fault.
+/// - 3: FILE is no history; the line names its fault. `trace` never ends with it.
 /// - 4: CERT is no certificate of this history; the line names its fault.
 /// - 5: there is no such file; the line names it.
 /// - 6: a read failed.
 /// - 7: a write failed. OUT is as it was, or a part of its text; `out` gained a part of its own, from nothing to all.
 /// - 8: the file is longer than its limit; the line names it.
 /// - 10: want of memory.
+/// - 11: `trace` alone: a line of HISTORY isn't one of its form, or else one of JOURNAL; the line says the file and the
+///   number of the first such line, counted from 1.
 ///
 /// `gen` and `trial` end with 0, 2, 7 or 10 alone, and open no file.
 ///
-/// After 2 to 6, 8 and 10 no file has changed, and `out` is as it was. Only the count of the failure that a status
+/// After 2 to 6, 8, 10 and 11 no file has changed, and `out` is as it was. Only the count of the failure that a status
 /// names rises, and that of `err`: a failed write to `err` changes no status.
 pub fn run_offline<R: Threads + Sync, S: Shelf, O: Sink, E: Sink, G: Gate>(
     rt: &R,

@@ -6,8 +6,9 @@ ghost use Rattle.history_csv.specs.Header.{IsColumn};
 ghost use Rattle.std.specs.Prelude.{◌≢◌};
 ghost use Rattle.history_csv.specs.declared.HistoryFault.{HistoryFault};
 ghost use Rattle.cert_text.specs.declared.CertFault.{CertFault};
+ghost use Rattle.trace_check.specs.declared.reading.TraceFault.{TraceFault};
 ghost use Rattle.command_outputs.specs.Lines.{memory_line};
-ghost use Rattle.audit_commands.specs.Lines.{record_line, fault_line, cert_line, cert_fault_line};
+ghost use Rattle.audit_commands.specs.Lines.{record_line, fault_line, cert_line, cert_fault_line, trace_line, trace_fault_line};
 ghost use Rattle.audit_commands.specs.Refusals.{HasLine, CanBeSaid, Says, Answers};
 ghost use Rattle.audit_commands.specs.Status.{number};
 ghost use Rattle.staleness_report.specs.Escaped.{escaped};
@@ -20,6 +21,7 @@ use history_csv::{HistoryFault, column_name};
 use stale_model::{Bytes, Memory};
 use staleness_report::escape;
 use std::alloc::{AllocError, Global};
+use trace_check::TraceFault;
 
 /// Why a command was refused.
 #[derive(Drop, Debug)]
@@ -28,6 +30,8 @@ pub(crate) enum Refusal {
     History(HistoryFault),
     /// The certificate has this fault, which is no want of memory.
     Cert(CertFault),
+    /// The two files of a run have this fault, which is no want of memory.
+    Trace(TraceFault),
     /// There is no such file. This is the line that says so.
     Missing(Bytes),
     ReadFailed,
@@ -61,6 +65,20 @@ impl From<CertFault> for Refusal {
         match fault {
             CertFault::Memory => Refusal::Memory,
             fault => Refusal::Cert(fault),
+        }
+    }
+}
+
+impl From<TraceFault> for Refusal {
+    ghost use Rattle.std.specs.Prelude.{◌≡◌};
+    ghost use Rattle.audit_commands.specs.Refusals.{trace_refusal_of};
+
+    ghost from_gives = { λ fault refusal. refusal ≡ trace_refusal_of fault };
+
+    fn from(fault: TraceFault) -> Refusal {
+        match fault {
+            TraceFault::Memory => Refusal::Memory,
+            fault => Refusal::Trace(fault),
         }
     }
 }
@@ -181,6 +199,30 @@ fn cert_fault_line(alloc: Global, fault: CertFault) -> Result<String, AllocError
     }
 }
 
+// The line on a line at fault of the file of this kind.
+fn trace_line(alloc: Global, kind: &str, number: u32) -> Result<String, AllocError>
+    ensures { IfOk result (λ line. string_bytes line ≡ trace_line kind.now number) }
+{
+    let mut line = String::from_str(alloc, "trace ")?;
+    line.push_str(kind)?;
+    line.push_str(" line ")?;
+    write!(line, "{number}")?;
+    line.push_str("\n")?;
+    Ok(line)
+}
+
+// The line on a fault of the two files of a run.
+fn trace_fault_line(alloc: Global, fault: TraceFault) -> Result<String, AllocError>
+    requires { fault ≢ TraceFault.Memory }
+    ensures { IfOk result (λ line. trace_fault_line fault ≡ Some (string_bytes line)) }
+{
+    match fault {
+        TraceFault::History { line } => trace_line(alloc, "history", line),
+        TraceFault::Journal { line } => trace_line(alloc, "journal", line),
+        TraceFault::Memory => unreachable!(),
+    }
+}
+
 // A label, a name and the end of the line.
 fn name_line_of(alloc: Global, label: &str, name: &[u8]) -> Result<Vec<u8>, AllocError>
     ensures { IfOk result (λ line. line.items ≡ label.now ++ name.now ++ codes "\n") }
@@ -241,6 +283,9 @@ pub(crate) fn refuse<E: Sink>(alloc: Global, refusal: Refusal, err: &mut E) -> S
         }
         Refusal::Cert(fault) => {
             end_by_fault(cert_fault_line(alloc, fault), Status::CertRefused, err)
+        }
+        Refusal::Trace(fault) => {
+            end_by_fault(trace_fault_line(alloc, fault), Status::TraceRefused, err)
         }
         Refusal::Missing(line) => end(err, line.as_slice(), Status::Missing),
         Refusal::ReadFailed => end(err, b"read failed\n", Status::ReadFailed),

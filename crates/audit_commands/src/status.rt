@@ -6,9 +6,10 @@ ghost use Rattle.audit_commands.specs.Status.{number};
 /// How a call of the program ended.
 #[derive(Clone, Copy, Debug, PartialEq, Eq)]
 pub enum Status {
-    /// What the words ask for was done: its text was written, or each verdict of the certificate is shown.
+    /// What the words ask for was done: its text was written, each verdict of the certificate is shown, or the two files
+    /// are a recorded run.
     Done,
-    /// Some verdict of the certificate isn't shown.
+    /// Some verdict of the certificate isn't shown, or the two files are no recorded run.
     NotShown,
     /// The words are others.
     WordsRefused,
@@ -26,6 +27,8 @@ pub enum Status {
     TooLong,
     /// Memory was wanting.
     OutOfMemory,
+    /// A line of the two files of a run is not one of its form.
+    TraceRefused,
 }
 
 impl Status {
@@ -44,6 +47,7 @@ impl Status {
             Status::WriteFailed => 7,
             Status::TooLong => 8,
             Status::OutOfMemory => 10,
+            Status::TraceRefused => 11,
         }
     }
 }

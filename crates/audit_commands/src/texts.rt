@@ -11,7 +11,7 @@ use audit_ports::Gate;
 use audit_words::Measure;
 use audit_workers::judge_all;
 use cert_text::write_cert;
-use mode_texts::{sides_text, two_text};
+use mode_texts::{live_text, sides_text, two_text};
 use stale_model::{Bytes, History, Memory, Verdict};
 use staleness_report::report;
 use std::alloc::Global;
@@ -88,5 +88,6 @@ pub(crate) fn texts_of<R: Threads + Sync, G: Gate>(
         Measure::Audit { cert, workers } => audit_texts(rt, alloc, history, cert, *workers, gate),
         Measure::Two => Ok(Texts::uncertified(alloc, two_text(alloc, history)?)),
         Measure::Sides => Ok(Texts::uncertified(alloc, sides_text(alloc, history)?)),
+        Measure::Live => Ok(Texts::uncertified(alloc, live_text(alloc, history)?)),
     }
 }

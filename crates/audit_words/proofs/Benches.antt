@@ -7,14 +7,16 @@ use Rattle.stale_model.specs.declared.Memory.{Memory}
 use Rattle.stale_model.specs.declared.store.Settings.{Settings}
 use Rattle.stale_model.specs.Settings.{AreSettings}
 use Rattle.audit_words.specs.declared.bench.Bench.{Bench}
+use Rattle.audit_words.specs.declared.Task.{Task}
 use Rattle.audit_words.specs.Line.{bench_options, entries_of, gives_only}
 use Rattle.audit_words.specs.Numbers.{workers_of}
 use Rattle.audit_words.specs.Files.{are_two_names, is_name}
 use Rattle.audit_words.specs.Limits.{AreWorkers, IsBench}
-use Rattle.audit_words.specs.Benches.{bench_by, bench_in, bench_with, settings_of}
+use Rattle.audit_words.specs.Settings.{settings_of}
+use Rattle.audit_words.specs.Benches.{bench_by, bench_in, bench_with}
 use Rattle.audit_words.specs.Tasks.{task_by, task_in}
 use Rattle.audit_words.specs.Laws.{OneTaskAtMost}
-use Rattle.audit_words.proofs.Settings.{IsFromTo, number_or-within, settings_of-within}
+use Rattle.audit_words.proofs.WithinLimits.{IsFromTo, number_or-within, settings_of-within}
 
 -- a number of workers
 are_workers : (number : Option ℕ) → IfSome number (IsFromTo 1 64) → IfSome number AreWorkers
@@ -68,13 +70,18 @@ was_taken : (one other : Bool) (o : Option Bench) (bench : Bench) → (if one &&
 was_taken true other o bench is = refl
 was_taken false other o bench is = absurd (cc is)
 
+-- a value that is none is none, whether it is taken or not
+none_either_way : (taken : Bool) (task : Option Task) → task ≡ None → (if taken then task else None) ≡ None
+none_either_way true task none = none
+none_either_way false task none = refl
+
 -- no mode is `bench` and another
 no_other_mode : (mode : Option Text) (rows : List Row) (bench : Bench) → bench_by mode rows ≡ Some bench → task_by mode rows ≡ None
 no_other_mode None rows bench is = refl
 no_other_mode (Some mode) rows bench is =
     let same = (bytes_eq-Decides mode (codes "bench")).0 (was_taken (bytes_eq mode (codes "bench")) (gives_only bench_options rows) _ bench is) in
     let IsNone : Text → Type 0 = λ mode. task_by (Some mode) rows ≡ None in
-    subst IsNone (sym same) refl
+    subst IsNone (sym same) (none_either_way (gives_only [] rows) None refl)
 
 -- no entries ask for a run and for another task
 no_other_task : (entries : Option (List Row)) (bench : Bench) → option_and_then bench_in entries ≡ Some bench → option_and_then task_in entries ≡ None

@@ -4,7 +4,7 @@ use Rattle.std.specs.List.{slice_split}
 use Rattle.clap.specs.Words.{Text}
 use Rattle.stale_model.specs.declared.store.Settings.{Settings}
 use Rattle.audit_words.specs.declared.Task.{Task}
-use Rattle.audit_words.specs.declared.Task.TheVariants.{Judge}
+use Rattle.audit_words.specs.declared.Task.TheVariants.{Judge, Trace}
 use Rattle.audit_words.specs.declared.Measure.TheVariants.{Audit}
 use Rattle.audit_words.specs.declared.Workload.{Workload}
 use Rattle.audit_words.specs.declared.bench.Bench.{Bench}
@@ -53,3 +53,7 @@ run settings workers = record {
   settings = settings;
   workers = workers;
 }
+
+-- the trace of the files `h` and `j`, by these settings
+abbrev pub trace : Settings → Task
+trace settings = Trace (codes "h") (codes "j") settings

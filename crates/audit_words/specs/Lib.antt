@@ -1,6 +1,7 @@
 pub mod Line
 pub mod Numbers
 pub mod Files
+pub mod Settings
 pub mod Tasks
 pub mod Benches
 pub mod Limits

@@ -2,9 +2,9 @@
 use Rattle.std.specs.Prelude.{ℕ, ◌≤◌, ◌≢◌, ⊤}
 use Rattle.stale_model.specs.Settings.{AreSettings}
 use Rattle.audit_words.specs.declared.Task.{Task}
-use Rattle.audit_words.specs.declared.Task.TheVariants.{Judge, Check, Gen, Trial}
+use Rattle.audit_words.specs.declared.Task.TheVariants.{Judge, Check, Gen, Trial, Trace}
 use Rattle.audit_words.specs.declared.Measure.{Measure}
-use Rattle.audit_words.specs.declared.Measure.TheVariants.{Audit, Two, Sides}
+use Rattle.audit_words.specs.declared.Measure.TheVariants.{Audit, Two, Sides, Live}
 use Rattle.audit_words.specs.declared.Workload.{Workload}
 use Rattle.audit_words.specs.declared.bench.Bench.{Bench}
 
@@ -25,6 +25,7 @@ abbrev pub IsMeasure : Measure → Type 0
 IsMeasure (Audit cert workers) = AreWorkers workers
 IsMeasure Two = ⊤
 IsMeasure Sides = ⊤
+IsMeasure Live = ⊤
 
 -- the numbers of a task are within their limits
 abbrev pub IsWithin : Task → Type 0
@@ -32,6 +33,7 @@ IsWithin (Judge file measure) = IsMeasure measure
 IsWithin (Check file cert) = ⊤
 IsWithin (Gen workload) = IsWorkload workload
 IsWithin (Trial workload workers) = IsWorkload workload × AreWorkers workers
+IsWithin (Trace history journal settings) = AreSettings settings
 
 -- a run of the store has settings within their limits, workers for its audit, and two files
 pub record IsBench (bench : Bench) : Type 0 where

@@ -22,11 +22,15 @@ option_rule name = record (new_rule name) { long = Some name }
 abbrev pub with_options : List Text → App → App
 with_options names command = fold (λ made name. with_rule made (option_rule name)) command names
 
--- the options of a run of the store
+-- the options that say the settings of a run of the store
+abbrev pub settings_options : List Text
+settings_options =
+    codes "clients" ∷ codes "replicas" ∷ codes "calls" ∷ codes "keys" ∷ codes "read-quorum" ∷ codes "write-quorum" ∷ codes "writes" ∷ codes "seed"
+    ∷ codes "shards" ∷ []
+
+-- the options of a run of the store: the number of workers, and its settings
 abbrev pub bench_options : List Text
-bench_options =
-    codes "workers" ∷ codes "clients" ∷ codes "replicas" ∷ codes "calls" ∷ codes "keys" ∷ codes "read-quorum" ∷ codes "write-quorum" ∷ codes "writes"
-    ∷ codes "seed" ∷ codes "shards" ∷ []
+bench_options = codes "workers" ∷ settings_options
 
 -- the command line, without the name of the program: a mode, its arguments, and the options
 abbrev pub command_line : App

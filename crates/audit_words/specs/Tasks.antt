@@ -2,14 +2,16 @@
 use Rattle.std.specs.Prelude.{ℕ, ◌&&◌, if◌then◌else◌, List, [], ◌∷◌, Option, Some, None, option_map, option_and_then, codes}
 use Rattle.std.specs.Str.{bytes_eq}
 use Rattle.clap.specs.Words.{Row, Text, all_of, first_of}
+use Rattle.stale_model.specs.declared.store.Settings.{Settings}
 use Rattle.audit_words.specs.declared.Task.{Task}
-use Rattle.audit_words.specs.declared.Task.TheVariants.{Judge, Check, Gen, Trial}
+use Rattle.audit_words.specs.declared.Task.TheVariants.{Judge, Check, Gen, Trial, Trace}
 use Rattle.audit_words.specs.declared.Measure.{Measure}
-use Rattle.audit_words.specs.declared.Measure.TheVariants.{Audit, Two, Sides}
+use Rattle.audit_words.specs.declared.Measure.TheVariants.{Audit, Two, Sides, Live}
 use Rattle.audit_words.specs.declared.Workload.{Workload}
-use Rattle.audit_words.specs.Line.{entries_of, gives_only}
+use Rattle.audit_words.specs.Line.{entries_of, gives_only, settings_options}
 use Rattle.audit_words.specs.Numbers.{number_within, workers_of}
 use Rattle.audit_words.specs.Files.{is_name, are_two_names}
+use Rattle.audit_words.specs.Settings.{settings_of}
 
 -- one file, beside it the certificate's where it is given, and a number of workers
 abbrev pub audit_with : Option (List Text) → Option Text → Option ℕ → Option Task
@@ -27,7 +29,7 @@ abbrev pub judge_with : Measure → Option (List Text) → Option Task
 judge_with measure (Some (file ∷ [])) = if is_name file then Some (Judge file measure) else None
 judge_with measure _ = None
 
--- `two FILE` or `sides FILE`, by the measure
+-- `two FILE`, `sides FILE` or `live FILE`, by the measure
 abbrev pub judge_of : Measure → List Row → Option Task
 judge_of measure rows = judge_with measure (all_of (codes "args") rows)
 
@@ -68,16 +70,33 @@ trial_with _ _ = None
 abbrev pub trial_of : List Row → Option Task
 trial_of rows = trial_with (workload_of rows) (workers_of (first_of (codes "workers") rows))
 
+-- two files, and settings
+abbrev pub trace_with : Option (List Text) → Option Settings → Option Task
+trace_with (Some (history ∷ journal ∷ [])) (Some settings) = if are_two_names history journal then Some (Trace history journal settings) else None
+trace_with _ _ = None
+
+-- `trace HISTORY JOURNAL [options]`
+abbrev pub trace_of : List Row → Option Task
+trace_of rows = trace_with (all_of (codes "args") rows) (settings_of rows)
+
+-- by the mode, of those that take no option
+abbrev pub plain_task_by : Text → List Row → Option Task
+plain_task_by mode rows =
+    if bytes_eq mode (codes "two") then judge_of Two rows
+    else if bytes_eq mode (codes "sides") then judge_of Sides rows
+    else if bytes_eq mode (codes "live") then judge_of Live rows
+    else if bytes_eq mode (codes "check") then check_of rows
+    else if bytes_eq mode (codes "gen") then gen_of rows
+    else None
+
 -- by the mode, which says the options that may be given
 abbrev pub task_by : Option Text → List Row → Option Task
 task_by None rows = None
 task_by (Some mode) rows =
     if bytes_eq mode (codes "audit") && gives_only (codes "cert" ∷ codes "workers" ∷ []) rows then audit_of rows
-    else if bytes_eq mode (codes "two") && gives_only [] rows then judge_of Two rows
-    else if bytes_eq mode (codes "sides") && gives_only [] rows then judge_of Sides rows
-    else if bytes_eq mode (codes "check") && gives_only [] rows then check_of rows
-    else if bytes_eq mode (codes "gen") && gives_only [] rows then gen_of rows
     else if bytes_eq mode (codes "trial") && gives_only (codes "workers" ∷ []) rows then trial_of rows
+    else if bytes_eq mode (codes "trace") && gives_only settings_options rows then trace_of rows
+    else if gives_only [] rows then plain_task_by mode rows
     else None
 
 -- what the entries of a command line ask for

@@ -2,16 +2,18 @@
 
 ghost use Rattle.std.specs.Prelude.{◌≡◌, ◌∷◌, [], Some, None, codes};
 ghost use Rattle.audit_words.specs.declared.Task.TheVariants.{Judge, Check, Gen, Trial};
-ghost use Rattle.audit_words.specs.declared.Measure.TheVariants.{Two, Sides};
+ghost use Rattle.audit_words.specs.declared.Measure.TheVariants.{Two, Sides, Live};
 ghost use Rattle.audit_words.specs.Benches.{bench_of};
 ghost use Rattle.audit_words.specs.Tasks.{task_of};
-ghost use Rattle.audit_words.specs.Examples.{asked_by, audit, default_settings, run, run_asked_by, settings, workload};
+ghost use Rattle.audit_words.specs.Examples.{asked_by, audit, default_settings, run, run_asked_by, settings, trace};
+ghost use Rattle.audit_words.specs.Examples.{workload};
 
 /// A file, and nothing else.
 pub fn modes_alone()
     ensures audit { asked_by (codes "audit h") ≡ Some (audit (codes "h") None 1) }
     ensures two { asked_by (codes "two h") ≡ Some (Judge (codes "h") Two) }
     ensures sides { asked_by (codes "sides h") ≡ Some (Judge (codes "h") Sides) }
+    ensures live { asked_by (codes "live h") ≡ Some (Judge (codes "h") Live) }
     ensures check { asked_by (codes "check h c") ≡ Some (Check (codes "h") (codes "c")) }
     ensures long_name { asked_by (codes "audit examples/session-store.csv")
         ≡ Some (audit (codes "examples/session-store.csv") None 1) }
@@ -27,12 +29,11 @@ pub fn options_anywhere()
         ≡ Some (audit (codes "h") (Some (codes "c")) 8) }
 {}
 
-/// A mode has to be there, and be one of the six.
+/// A mode has to be there, and be one of the eight.
 pub fn wrong_modes()
     ensures no_word { task_of [] ≡ None }
     ensures empty { task_of ([] ∷ codes "h" ∷ []) ≡ None }
     ensures other { asked_by (codes "judge h") ≡ None }
-    ensures live { asked_by (codes "live h") ≡ None }
     ensures longer { asked_by (codes "audits h") ≡ None }
     ensures capital { asked_by (codes "Audit h") ≡ None }
     ensures file_first { asked_by (codes "h audit") ≡ None }
@@ -47,15 +48,19 @@ pub fn runs_and_other_modes()
     ensures no_mode { run_asked_by (codes "h j") ≡ None }
 {}
 
-/// `audit`, `two` and `sides` have one file, and `check` has two.
+/// `audit`, `two`, `sides` and `live` have one file, and `check` and `trace` have two.
 pub fn wrong_counts_of_files()
     ensures audit_none { asked_by (codes "audit") ≡ None }
     ensures audit_two { asked_by (codes "audit h g") ≡ None }
     ensures measure_none { asked_by (codes "two") ≡ None }
     ensures two_two { asked_by (codes "two h g") ≡ None }
     ensures sides_two { asked_by (codes "sides h g") ≡ None }
+    ensures live_none { asked_by (codes "live") ≡ None }
+    ensures live_two { asked_by (codes "live h g") ≡ None }
     ensures check_one { asked_by (codes "check h") ≡ None }
     ensures check_three { asked_by (codes "check h c d") ≡ None }
+    ensures trace_one { asked_by (codes "trace h") ≡ None }
+    ensures trace_three { asked_by (codes "trace h j k") ≡ None }
 {}
 
 /// A generated history has a seed, a number of operations and one of keys.
@@ -93,12 +98,15 @@ pub fn wrong_files()
     ensures audit_empty { task_of (codes "audit" ∷ [] ∷ []) ≡ None }
     ensures two_empty { task_of (codes "two" ∷ [] ∷ []) ≡ None }
     ensures sides_empty { task_of (codes "sides" ∷ [] ∷ []) ≡ None }
+    ensures live_empty { task_of (codes "live" ∷ [] ∷ []) ≡ None }
     ensures check_empty { task_of (codes "check" ∷ codes "h" ∷ [] ∷ []) ≡ None }
     ensures cert_empty { asked_by (codes "audit h --cert=") ≡ None }
     ensures cert_empty_word { task_of (codes "audit" ∷ codes "h" ∷ codes "--cert" ∷ [] ∷ [])
         ≡ None }
     ensures audit_same { asked_by (codes "audit h --cert h") ≡ None }
     ensures check_same { asked_by (codes "check h h") ≡ None }
+    ensures trace_empty { task_of (codes "trace" ∷ codes "h" ∷ [] ∷ []) ≡ None }
+    ensures trace_same { asked_by (codes "trace h h") ≡ None }
 {}
 
 /// Names as they stand: a path by another way, a blank, a minus sign alone, bytes that are no ASCII.
@@ -141,6 +149,10 @@ pub fn wrong_options()
     ensures check_cert { asked_by (codes "check h c --cert d") ≡ None }
     ensures two_workers { asked_by (codes "two h --workers 2") ≡ None }
     ensures sides_cert { asked_by (codes "sides h --cert c") ≡ None }
+    ensures live_workers { asked_by (codes "live h --workers 2") ≡ None }
+    ensures live_cert { asked_by (codes "live h --cert c") ≡ None }
+    ensures trace_workers { asked_by (codes "trace h j --workers 2") ≡ None }
+    ensures trace_cert { asked_by (codes "trace h j --cert c") ≡ None }
     ensures audit_seed { asked_by (codes "audit h --seed 1") ≡ None }
     ensures unknown { asked_by (codes "audit h --colour 1") ≡ None }
     ensures shortened { asked_by (codes "audit h --work 2") ≡ None }
@@ -219,6 +231,25 @@ pub fn runs_above_their_limits()
     ensures seed { run_asked_by (codes "bench h j --seed 18446744073709551616") ≡ None }
     ensures shards { run_asked_by (codes "bench h j --shards 17") ≡ None }
     ensures workers { run_asked_by (codes "bench h j --workers 65") ≡ None }
+{}
+
+/// The files of a run: its settings where the words say none, some and all of them.
+pub fn settings_of_traces()
+    ensures none { asked_by (codes "trace h j") ≡ Some (trace default_settings) }
+    ensures some { asked_by (codes "trace --keys=1 h --replicas 1 j --calls 2")
+        ≡ Some (trace (settings 2 1 2 1 1 1 50 1 1)) }
+    ensures all { asked_by (codes "trace h j --clients 4 --replicas 5 --calls 6 --keys 7 --read-quorum 2 --write-quorum 3 --writes 8 --seed 9 --shards 10")
+        ≡ Some (trace (settings 4 5 6 7 2 3 8 9 10)) }
+{}
+
+/// And settings that are none.
+pub fn wrong_traces()
+    ensures no_client { asked_by (codes "trace h j --clients 0") ≡ None }
+    ensures replicas_above { asked_by (codes "trace h j --replicas 8") ≡ None }
+    ensures calls_of_all { asked_by (codes "trace h j --clients 32 --calls 3126") ≡ None }
+    ensures read_quorum { asked_by (codes "trace h j --read-quorum 4") ≡ None }
+    ensures no_number { asked_by (codes "trace h j --seed one") ≡ None }
+    ensures run { run_asked_by (codes "trace h j") ≡ None }
 {}
 
 /// All clients together make at most 100,000 calls, and no quorum is above the number of replicas.

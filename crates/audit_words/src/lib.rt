@@ -12,13 +12,14 @@ mod laws;
 mod line;
 mod modes;
 mod number;
+mod settings;
 mod word;
 
 use crate::line::matches_of;
 use crate::modes::task_in;
 pub use bench::{Bench, bench_of};
 pub use laws::one_task_at_most;
-use stale_model::{Bytes, Memory};
+use stale_model::{Bytes, Memory, Settings};
 use std::alloc::Global;
 pub use word::Word;
 
@@ -47,12 +48,15 @@ pub enum Measure {
     Two,
     /// The least number of ticks by which both ends of its operations have to be moved for it to be atomic.
     Sides,
+    /// The least Δ, in ticks, of the operations that have finished, after each of them.
+    Live,
 }
 
 /// A command with its files and settings. A file's name is not empty, and no two of a command are the same.
 #[derive(Drop, Debug)]
 pub enum Task {
-    /// `audit FILE [--cert OUT] [--workers N]`, `two FILE` or `sides FILE`: judge the history in FILE by this measure.
+    /// `audit FILE [--cert OUT] [--workers N]`, `two FILE`, `sides FILE` or `live FILE`: judge the history in FILE by this
+    /// measure.
     Judge {
         file: Bytes,
         measure: Measure,
@@ -70,6 +74,15 @@ pub enum Task {
         /// How many workers judge: 1 to 64, and 1 where the words do not say.
         workers: u32,
     },
+    /// `trace HISTORY JOURNAL [options]`: say whether the two files are those of one run of the store.
+    Trace {
+        /// The file with the history of the run.
+        history: Bytes,
+        /// The file with the journals of its replicas.
+        journal: Bytes,
+        /// What the run had to do.
+        settings: Settings,
+    },
 }
 
 /// What the words of a command line, after the name of the program, ask for; nothing where they are wrong, or ask for
@@ -78,7 +91,8 @@ pub enum Task {
 /// Options may stand anywhere, as `--workers 2` or `--workers=2`; the word `--` ends them. An option that comes twice,
 /// that is unknown or shortened, that the mode does not take, or whose value begins with `-` after a blank is wrong.
 /// A number has 1 to 20 digits and is within its limits: the number of workers, and SEED (at most 2^64 - 1), OPS (1 to
-/// 1,000,000) and KEYS (1 to 100,000).
+/// 1,000,000) and KEYS (1 to 100,000). `trace` takes the options of `bench_of` but `--workers`, with the same limits and
+/// the same numbers where they are not given; `--shards` is read, and says nothing of a run.
 ///
 /// # Errors
 /// `Memory` may come at any time. It is never taken for wrong words.

@@ -2,7 +2,8 @@
 
 ghost use Rattle.std.specs.Prelude.{◌≡◌, IfOk, false, map, option_map};
 ghost use Rattle.clap.specs.Words.{all_of, first_of, app_of, found_of, rows_of, rule_of};
-ghost use Rattle.audit_words.specs.Line.{bench_options, command_line, entries_of, option_rule, with_options, is_among, gives_only};
+ghost use Rattle.audit_words.specs.Line.{bench_options, settings_options, command_line, entries_of, option_rule};
+ghost use Rattle.audit_words.specs.Line.{with_options, is_among, gives_only};
 
 use crate::Word;
 use clap::error::ErrorKind;
@@ -10,7 +11,7 @@ use clap::{Arg, ArgAction, ArgMatches, Command};
 use stale_model::Memory;
 use std::alloc::{AllocError, Global};
 
-/// The options of a run of the store.
+/// The options of a run of the store: first the number of workers, and then those that say its settings.
 pub(crate) fn bench_options<'a>() -> [&'a str; 10]
     ensures { map (λ name. name.now) result ≡ bench_options }
 {
@@ -120,4 +121,11 @@ pub(crate) fn gives_only<'a>(matches: &ArgMatches<'a>, options: &[&'a str]) -> b
         }
     }
     true
+}
+
+/// Whether no options but those that say the settings of a run are given.
+pub(crate) fn gives_settings_only(matches: &ArgMatches) -> bool
+    ensures { result ≡ gives_only settings_options (rows_of (found_of matches.now)) }
+{
+    gives_only(matches, &bench_options()[1..])
 }

@@ -3,11 +3,12 @@
 ghost use Rattle.std.specs.Prelude.{◌≡◌, IfOk, IfSome};
 ghost use Rattle.clap.specs.Words.{found_of, rows_of};
 ghost use Rattle.audit_words.specs.Limits.{IsMeasure, IsWithin, IsWorkload};
-ghost use Rattle.audit_words.specs.Tasks.{audit_of, judge_of, check_of, workload_of, gen_of, trial_of, task_in};
+ghost use Rattle.audit_words.specs.Tasks.{audit_of, judge_of, check_of, workload_of, gen_of, trial_of, trace_of, plain_task_by, task_in};
 
 use crate::files::{are_two_names, is_name};
-use crate::line::{gives_only, value_in, values_in};
+use crate::line::{gives_only, gives_settings_only, value_in, values_in};
 use crate::number::{number_within, workers_of};
+use crate::settings::settings_of;
 use crate::{Measure, Task, Workload};
 use clap::ArgMatches;
 use stale_model::{Bytes, Memory};
@@ -34,7 +35,7 @@ fn audit_of(alloc: Global, matches: &ArgMatches) -> Result<Option<Task>, Memory>
     Ok(Some(Task::Judge { file, measure }))
 }
 
-// `two FILE` or `sides FILE`, by the measure
+// `two FILE`, `sides FILE` or `live FILE`, by the measure
 fn judge_of(alloc: Global, matches: &ArgMatches, measure: Measure) -> Result<Option<Task>, Memory>
     requires { IsMeasure measure }
     ensures task { IfOk result (λ task. task ≡ judge_of measure (rows_of (found_of matches.now))) }
@@ -99,6 +100,44 @@ fn trial_of(matches: &ArgMatches) -> Option<Task>
     Some(Task::Trial { workload, workers })
 }
 
+// `trace HISTORY JOURNAL [options]`
+fn trace_of(alloc: Global, matches: &ArgMatches) -> Result<Option<Task>, Memory>
+    ensures task { IfOk result (λ task. task ≡ trace_of (rows_of (found_of matches.now))) }
+    ensures within { IfOk result (λ task. IfSome task IsWithin) }
+{
+    let Some([history, journal]) = values_in(matches, "args") else {
+        return Ok(None);
+    };
+    let Some(settings) = settings_of(matches) else {
+        return Ok(None);
+    };
+    if !are_two_names(history, journal) {
+        return Ok(None);
+    }
+    let history = Bytes::of(alloc, history.as_bytes())?;
+    let journal = Bytes::of(alloc, journal.as_bytes())?;
+    Ok(Some(Task::Trace {
+        history,
+        journal,
+        settings,
+    }))
+}
+
+// What the matches ask for, by a mode that takes no option.
+fn plain_task_in(alloc: Global, mode: &str, matches: &ArgMatches) -> Result<Option<Task>, Memory>
+    ensures task { IfOk result (λ task. task ≡ plain_task_by mode.now (rows_of (found_of matches.now))) }
+    ensures within { IfOk result (λ task. IfSome task IsWithin) }
+{
+    match mode {
+        "two" => judge_of(alloc, matches, Measure::Two),
+        "sides" => judge_of(alloc, matches, Measure::Sides),
+        "live" => judge_of(alloc, matches, Measure::Live),
+        "check" => check_of(alloc, matches),
+        "gen" => Ok(gen_of(matches)),
+        _ => Ok(None),
+    }
+}
+
 /// What the matches ask for, by the mode.
 pub(crate) fn task_in(alloc: Global, matches: &ArgMatches) -> Result<Option<Task>, Memory>
     ensures task { IfOk result (λ task. task ≡ task_in (rows_of (found_of matches.now))) }
@@ -106,11 +145,9 @@ pub(crate) fn task_in(alloc: Global, matches: &ArgMatches) -> Result<Option<Task
 {
     match value_in(matches, "mode") {
         Some("audit") if gives_only(matches, &["cert", "workers"]) => audit_of(alloc, matches),
-        Some("two") if gives_only(matches, &[]) => judge_of(alloc, matches, Measure::Two),
-        Some("sides") if gives_only(matches, &[]) => judge_of(alloc, matches, Measure::Sides),
-        Some("check") if gives_only(matches, &[]) => check_of(alloc, matches),
-        Some("gen") if gives_only(matches, &[]) => Ok(gen_of(matches)),
         Some("trial") if gives_only(matches, &["workers"]) => Ok(trial_of(matches)),
+        Some("trace") if gives_settings_only(matches) => trace_of(alloc, matches),
+        Some(mode) if gives_only(matches, &[]) => plain_task_in(alloc, mode, matches),
         _ => Ok(None),
     }
 }

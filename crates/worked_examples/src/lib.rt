@@ -19,6 +19,8 @@ mod judgements;
 #[cfg(test)]
 mod large;
 #[cfg(test)]
+mod live_rows;
+#[cfg(test)]
 mod measures;
 #[cfg(test)]
 mod outside;
@@ -28,3 +30,5 @@ mod reading;
 mod runs;
 #[cfg(test)]
 mod stress;
+#[cfg(test)]
+mod trace_rows;

@@ -185,7 +185,7 @@ fn a_measure_takes_one_file(rt: HostRuntime) -> Result<(), Fail> {
                 2,
                 line,
             ),
-            refused("a mode that is not there", &["live", "h"], 2, line),
+            refused("a mode that is not there", &["lives", "h"], 2, line),
         ],
     )?;
     Ok(())

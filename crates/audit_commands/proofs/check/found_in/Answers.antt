@@ -8,7 +8,7 @@ pub returns-in_err-history-clause-err : goal.returns-in_err-history-clause-err
 returns-in_err-history-clause-err g c =
     let is : c.from_residual.result ≡ Err c.in_err-history.field-0.0 = search rules in
     let name : c.as_slice.result.now ≡ c.args.file.now = search rules in
-    rw is (history_shows (Check c.args.file.now c.args.cert.now) c.args.file.now refl (g.S.Shelf.shown c.args.shelf.now) (g.S.Shelf.shown c.history_in.new.shelf) c.in_err-history.field-0.0 (rw name at c.in_err-history.ensures.err))
+    rw is (history_shows (Check c.args.file.now c.args.cert.now) c.args.file.now refl (g.S.Shelf.shown c.args.shelf.now) (g.S.Shelf.shown c.history_in.new.shelf) refl c.in_err-history.field-0.0 (rw name at c.in_err-history.ensures.err))
 
 pub returns-in_err-verdicts-clause-err : goal.returns-in_err-verdicts-clause-err
 returns-in_err-verdicts-clause-err g c =

@@ -8,6 +8,7 @@ returns c = record {
   audit = refl;
   two = refl;
   sides = refl;
+  live = refl;
   check = refl;
   long_name = refl;
 }

@@ -10,6 +10,10 @@ returns c = record {
   measure_none = refl;
   two_two = refl;
   sides_two = refl;
+  live_none = refl;
+  live_two = refl;
   check_one = refl;
   check_three = refl;
+  trace_one = refl;
+  trace_three = refl;
 }

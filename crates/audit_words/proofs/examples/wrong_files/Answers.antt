@@ -8,9 +8,12 @@ returns c = record {
   audit_empty = refl;
   two_empty = refl;
   sides_empty = refl;
+  live_empty = refl;
   check_empty = refl;
   cert_empty = refl;
   cert_empty_word = refl;
   audit_same = refl;
   check_same = refl;
+  trace_empty = refl;
+  trace_same = refl;
 }

@@ -8,7 +8,6 @@ returns c = record {
   no_word = refl;
   empty = refl;
   other = refl;
-  live = refl;
   longer = refl;
   capital = refl;
   file_first = refl;

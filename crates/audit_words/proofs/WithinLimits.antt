@@ -5,7 +5,7 @@ use Rattle.clap.specs.Words.{Row, Text, first_of}
 use Rattle.stale_model.specs.declared.store.Settings.{Settings}
 use Rattle.stale_model.specs.Settings.{AreSettings}
 use Rattle.audit_words.specs.Numbers.{number_of, number_or, within}
-use Rattle.audit_words.specs.Benches.{if_possible, option_of, settings_in, settings_of, settings_with}
+use Rattle.audit_words.specs.Settings.{if_possible, option_of, settings_in, settings_of, settings_with}
 
 -- a number that is from least to most
 abbrev pub IsFromTo : ℕ → ℕ → ℕ → Type 0
