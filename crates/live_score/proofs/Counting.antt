@@ -64,9 +64,9 @@ counts_unwritten fed a read none =
     (or_from (is_write a) (a.value == 0) (ap is_write_kind read) (ne_eqb a.value 0 (not_absent fed a.value none)))
     (not_written fed a.value none)
 
-or_false : (b : Bool) → (b || false) ≡ b
-or_false true = refl
-or_false false = refl
+last_false : (b c : Bool) → c ≡ false → (b || c) ≡ b
+last_false true c e = refl
+last_false false c e = e
 
 eqb_flips : (m n : ℕ) → (m == n) ≡ (n == m)
 eqb_flips m n = elim (cases_eq m n) [
@@ -79,13 +79,13 @@ written_after_read : (fed : List Op) (op : Op) (value : ℕ) → IsRead op → i
 written_after_read fed op value read =
     let test : Op → Bool = λ a. is_write a && (a.value == value) in
     let last : (test op || false) ≡ false = or_from (test op) false (and_left (is_write op) (op.value == value) (ap is_write_kind read)) refl in
-    list_any-append test fed (op ∷ []) ∙ (ap (λ (b : Bool). is_written fed value || b) last ∙ or_false (is_written fed value))
+    list_any-append test fed (op ∷ []) ∙ last_false (is_written fed value) (test op || false) last
 
 written_after_write : (fed : List Op) (op : Op) (value : ℕ) → IsWrite op → is_written (fed ++ op ∷ []) value ≡ (is_written fed value || (value == op.value))
 written_after_write fed op value write =
     let test : Op → Bool = λ a. is_write a && (a.value == value) in
     let kind : is_write op ≡ true = ap is_write_kind write in
-    let last : (test op || false) ≡ (value == op.value) = ap (λ (b : Bool). (b && (op.value == value)) || false) kind ∙ (or_false (op.value == value) ∙ eqb_flips op.value value) in
+    let last : (test op || false) ≡ (value == op.value) = ap (λ (b : Bool). (b && (op.value == value)) || false) kind ∙ (last_false (op.value == value) false refl ∙ eqb_flips op.value value) in
     list_any-append test fed (op ∷ []) ∙ ap (λ (b : Bool). is_written fed value || b) last
 
 -- sums of parts

@@ -51,12 +51,13 @@ abbrev pub IsScoreOfPlaces : List Place → Option ℕ → Type 0
 IsScoreOfPlaces places None = IsEarlyPlace places
 IsScoreOfPlaces places (Some d) = IsGreatestWithoutEarly places d
 
--- the numbers of a place after a change: it was vacant, or its s alone rises
+-- the numbers of a place whose s alone rises
 pub record IsSameWrite (old new : Place) : Type 0 where
   pub f : old.f ≡ new.f
   pub w : old.w ≡ new.w
   pub s : old.s ≤ new.s
 
+-- no score of the old numbers is greater than that of the new ones: they were vacant, or of the same write
 abbrev pub IsRaised : Place → Place → Type 0
 IsRaised old new = IsVacant old ⊎ IsSameWrite old new
 
