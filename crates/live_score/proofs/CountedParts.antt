@@ -1,5 +1,5 @@
 -- The operations that counted still count when more come in.
-use Rattle.std.proofs.Common.{◌≡◌, ◌⊎◌, ℕ, ◌<◌, ◌≤◌, Bool, true, false, List, ◌∷◌, ◌++◌, refl, sym, ◌∙◌, ap, subst, inl, inr, arith}
+use Rattle.std.proofs.Common.{◌≡◌, ◌⊎◌, ℕ, ◌≤◌, Bool, true, false, List, ◌∷◌, ◌++◌, refl, sym, ap, subst, inl, inr, arith}
 use Rattle.std.specs.Prelude.{Contains, ◌==◌, ◌&&◌, ◌||◌, filter}
 use Rattle.std.proofs.lemmas.Bool.{cases_lt, and_parts, eqb-true}
 use Rattle.std.proofs.lemmas.Map.Keys.{any_passes_from_place}
@@ -10,7 +10,7 @@ use Rattle.stale_model.specs.Faults.{IsWriteOf, IsReadIn}
 use Rattle.stale_model.specs.NamedWrites.{WritesDiffer}
 use Rattle.stale_model.specs.Valid.{IsValidOp}
 use Rattle.stale_model.specs.Orders.{IsOrder}
-use Rattle.stale_model.specs.Counted.{is_written, counts, counted, IsScore}
+use Rattle.stale_model.specs.Counted.{is_written, counts, counted}
 use Rattle.stale_model.proofs.Places.{place_of}
 use Rattle.stale_model.proofs.ReadsAndWrites.{kind_is_write}
 use Rattle.stale_model.proofs.Sorted.{first_or_later, contains_later}

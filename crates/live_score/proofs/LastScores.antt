@@ -1,6 +1,6 @@
 -- At the end of a key all its operations count.
-use Rattle.std.proofs.Common.{◌≡◌, ◌⊎◌, ℕ, ◌<◌, Bool, true, false, not, cond, List, [], ◌∷◌, refl, sym, ◌∙◌, ap, subst, inl, inr, arith}
-use Rattle.std.specs.Prelude.{Contains, ◌==◌, ◌&&◌, ◌||◌, ◌↔◌, count_by, filter, Some, None}
+use Rattle.std.proofs.Common.{◌≡◌, ℕ, Bool, true, false, not, cond, List, [], ◌∷◌, refl, sym, ◌∙◌, ap, subst, inl, inr, arith}
+use Rattle.std.specs.Prelude.{Contains, ◌==◌, ◌&&◌, ◌||◌, count_by, filter}
 use Rattle.std.specs.List.Sorted.{IsPermutation}
 use Rattle.std.proofs.lemmas.Bool.{and_from, eq-eqb}
 use Rattle.std.proofs.lemmas.List.Sums.{sum_by-append}
@@ -12,13 +12,13 @@ use Rattle.stale_model.specs.Operations.{initial_write, operations, is_write, is
 use Rattle.stale_model.specs.Valid.{IsValidKey}
 use Rattle.stale_model.specs.Faults.{IsMatchedKey, IsWriteOf}
 use Rattle.stale_model.specs.LeastDelta.{HasNoDelta, IsLeastDelta}
-use Rattle.stale_model.specs.Counted.{is_written, counts, counted, waiting}
+use Rattle.stale_model.specs.Counted.{is_written, counts, counted}
 use Rattle.stale_model.proofs.Places.{place_of}
 use Rattle.stale_model.proofs.Sorted.{first_or_later, contains_later}
 use Rattle.stale_model.proofs.Members.{contains_first}
 use Rattle.model_laws.proofs.Named.{matched_keys_name_their_writes}
 use Rattle.model_laws.proofs.Rearranged.{orders_stay_of_rearranged}
-use Rattle.live_score.specs.Laws.{HasScoreOfKey, LastScoresAreOfKeys}
+use Rattle.live_score.specs.Laws.{LastScoresAreOfKeys}
 
 module _ {X : Type 0} (passes : X → Bool) where
   all_kept_by : (b : Bool) (x : X) (xs ys : List X) → b ≡ true → ys ≡ xs → cond b (x ∷ ys) ys ≡ x ∷ xs

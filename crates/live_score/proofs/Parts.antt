@@ -1,5 +1,5 @@
 -- An order of operations, without those that are not of a part of them, is an order of the part.
-use Rattle.std.proofs.Common.{◌≡◌, ℕ, zero, suc, ◌+◌, ◌-◌, ◌<◌, ◌≤◌, Bool, true, false, cond, List, [], ◌∷◌, length, get_or, take, drop, refl, sym, ◌∙◌, ap, subst, inl, inr, arith}
+use Rattle.std.proofs.Common.{◌≡◌, ℕ, ◌+◌, ◌-◌, ◌<◌, ◌≤◌, Bool, true, false, cond, List, [], ◌∷◌, length, get_or, drop, refl, sym, ◌∙◌, ap, subst, inl, inr, arith}
 use Rattle.std.specs.Prelude.{Contains, slice_range, count_by, ◌==◌, ◌&&◌}
 use Rattle.std.specs.List.{filter}
 use Rattle.std.proofs.lemmas.Bool.{cases_order, cases_Bool}
@@ -14,7 +14,7 @@ use Rattle.stale_model.specs.NamedWrites.{WritesDiffer}
 use Rattle.stale_model.specs.Orders.{StandsAt, StandsBefore, IsWithoutRepeats, is_write_record, IsAmongLast, IsOrder}
 use Rattle.stale_model.proofs.Places.{place_of, contains_at, counts_between}
 use Rattle.stale_model.proofs.Sorted.{first_or_later, contains_later}
-use Rattle.stale_model.proofs.Members.{empty_has_none, contains_first, kept_is_there, kept_passes, kept_from}
+use Rattle.stale_model.proofs.Members.{empty_has_none, contains_first, kept_passes, kept_from}
 use Rattle.model_laws.proofs.Tests.{has, has_contains, contains_has, some_passes}
 use Rattle.model_laws.proofs.Listings.{origin, origin_rises, origin_stands}
 use Rattle.model_laws.proofs.OrderPlaces.{record_is_known}
@@ -54,7 +54,10 @@ module _ (passes : ℕ → Bool) (order : List ℕ) (once : IsWithoutRepeats ord
       let second = origin_is j s.later b there s.second in
       let rises = s.rises in
       record {
-        place = i; later = j; first = at; second = there;
+        place = i;
+        later = j;
+        first = at;
+        second = there;
         rises = elim (cases_order i j) [
           | inl same ↦ absurd (let e : origin passes order i ≡ origin passes order j = ap (λ (n : ℕ). origin passes order n) same in omega arith)
           | inr less ↦ elim less [
@@ -71,16 +74,16 @@ module _ (passes : ℕ → Bool) (order : List ℕ) (once : IsWithoutRepeats ord
       let first = origin_is kept.place s.place a kept.first s.first in
       let second = origin_is kept.later s.later b kept.second s.second in
       let each : (x : ℕ) → Contains (slice_range (filter passes order) (kept.place + 1) kept.later) x → t x ≡ false =
-        λ x c.
-          let (m, low, high, at) = within_part (filter passes order) (kept.place + 1) kept.later x c in
-          let above = origin_rises passes order kept.place m (omega arith) in
-          let below = origin_rises passes order m kept.later high in
-          elim (cases_Bool (t x)) [
-            | inl passed ↦
-                let some = counts_between q order s.place s.later (origin passes order m) x (origin_stands passes order m x at) (omega arith) (omega arith) (weaker x passed) in
-                absurd (omega arith)
-            | inr failed ↦ failed
-          ]
+      λ x c.
+      let (m, low, high, at) = within_part (filter passes order) (kept.place + 1) kept.later x c in
+      let above = origin_rises passes order kept.place m (omega arith) in
+      let below = origin_rises passes order m kept.later high in
+      elim (cases_Bool (t x)) [
+        | inl passed ↦
+            let some = counts_between q order s.place s.later (origin passes order m) x (origin_stands passes order m x at) (omega arith) (omega arith) (weaker x passed) in
+            absurd (omega arith)
+        | inr failed ↦ failed
+      ]
       in
       let zeroth = none_counted t (slice_range (filter passes order) (kept.place + 1) kept.later) each in
       omega arith

@@ -1,5 +1,5 @@
 -- The operations of a key that were fed, and what each more is answered.
-use Rattle.std.specs.Prelude.{◌≡◌, ◌≢◌, ⊤, ℕ, ◌≤◌, ◌<◌, List, [], ◌∷◌, ◌++◌, length, All, false}
+use Rattle.std.specs.Prelude.{◌≡◌, ◌≢◌, ℕ, ◌≤◌, ◌<◌, List, [], ◌∷◌, ◌++◌, length, All, false}
 use Rattle.stale_model.specs.declared.Op.{Op}
 use Rattle.stale_model.specs.Operations.{IsRead, IsWrite, initial_write, latest_finish}
 use Rattle.stale_model.specs.Valid.{IsValidOp}
