@@ -1,6 +1,6 @@
 -- Feeding operations in the order in which they finish, and the changes of the score along them.
-use Rattle.std.proofs.Common.{◌≡◌, ◌⊎◌, ℕ, zero, suc, ◌+◌, ◌<◌, ◌≤◌, Bool, true, false, cond, List, [], ◌∷◌, ◌++◌, length, get_or, take, refl, sym, ◌∙◌, ap, subst, inl, inr, arith, append_assoc, length-append}
-use Rattle.std.specs.Prelude.{All, AllPairs, Contains, slice_get, Option, Some, None, if◌then◌else◌, ◌==◌, ◌≢◌}
+use Rattle.std.proofs.Common.{◌≡◌, ◌⊎◌, ℕ, zero, suc, ◌+◌, ◌<◌, ◌≤◌, List, [], ◌∷◌, ◌++◌, length, get_or, take, refl, sym, ◌∙◌, ap, subst, inl, inr, arith, append_assoc, length-append}
+use Rattle.std.specs.Prelude.{All, AllPairs, Contains, slice_get, Option, Some, if◌then◌else◌, ◌==◌, ◌≢◌}
 use Rattle.std.specs.Option.{option_eq}
 use Rattle.std.proofs.lemmas.Bool.{cases_order}
 use Rattle.std.proofs.lemmas.List.{take_more, get_or-take, length-take-le, get_or_default, append-nil, take-append-le, take_all}
@@ -8,13 +8,12 @@ use Rattle.std.proofs.lemmas.Option.{same_Some, none-some}
 use Rattle.std.proofs.lemmas.List.Sorted.{All-permutation, Contains-permutation, IsPermutation-sym, length_permutation}
 use Rattle.stale_model.specs.declared.Op.{Op}
 use Rattle.stale_model.specs.declared.KeyOps.{KeyOps}
-use Rattle.stale_model.specs.Operations.{initial_write, operations, latest_finish, records_of}
+use Rattle.stale_model.specs.Operations.{initial_write, operations, latest_finish}
 use Rattle.stale_model.specs.Valid.{IsValidOp, IsValidKey}
-use Rattle.stale_model.specs.Faults.{HasNone, IsDuplicate, IsWriteOf}
-use Rattle.stale_model.specs.NamedWrites.{RecordsDiffer}
+use Rattle.stale_model.specs.Faults.{HasNone, IsDuplicate}
 use Rattle.stale_model.specs.Counted.{IsScore, waiting}
-use Rattle.stale_model.proofs.Sorted.{one_by_number, first_or_later, contains_later}
-use Rattle.stale_model.proofs.Members.{contains_first, taken_is_there}
+use Rattle.stale_model.proofs.Sorted.{one_by_number, contains_later}
+use Rattle.stale_model.proofs.Members.{taken_is_there}
 use Rattle.model_laws.proofs.ClustersOne.{valid_records_differ}
 use Rattle.live_score.specs.Feeding.{LiveView, CanBeFed, IsSecondWrite, IsFedAs, fed_after}
 use Rattle.live_score.specs.declared.live.Fed.{Fed}
@@ -22,7 +21,7 @@ use Rattle.live_score.specs.declared.live.Fed.TheVariants.{Counted, Waiting, Dup
 use Rattle.mode_texts.specs.declared.live.Change.{Change}
 use Rattle.mode_texts.specs.LiveTexts.{FinishesFirst, IsByFinish, AreScores, changes_of, IsScored}
 use Rattle.mode_texts.specs.LiveSteps.{CanAllBeFed, AreChangesSoFar, AreChanges, last_score}
-use Rattle.mode_texts.proofs.Finishing.{first_with_all}
+use Rattle.mode_texts.proofs.Finishing.{initial_first}
 
 -- what stands in a list before a place is before what stands there
 stands_before : {X : Type 0} (R : X → X → Type 0) (xs : List X) (i : ℕ) (x y : X) → AllPairs R xs → i < length xs → y ≡ get_or xs i y → Contains (take i xs) x → R x y
@@ -71,15 +70,15 @@ module _ (values : ℕ) (ops : List Op) (can : CanAllBeFed values ops) (i : ℕ)
       let n = length-take-le i ops (omega arith) in
       let fed_length = ap (λ (xs : List Op). length xs) fed_is in
       let each : (k : ℕ) (d : Op) → k < length (take i ops) → Contains (initial_write ∷ take i ops) (get_or (take i ops) k d) =
-        λ k d l. contains_later initial_write (get_or (take i ops) k d) (take i ops) (k, l, get_or_default (take i ops) k (get_or (take i ops) k d) d l)
+      λ k d l. contains_later initial_write (get_or (take i ops) k d) (take i ops) (k, l, get_or_default (take i ops) k (get_or (take i ops) k d) d l)
       in
       record {
         room = omega arith;
         valid = subst (λ (v : ℕ). IsValidOp v op) (sym values_is) (subst (λ (x : Op). IsValidOp values x) (sym is) (can.valid i op within));
         new_record = subst (λ (xs : List Op). All (λ (a : Op). a.rec ≢ op.rec) xs) (sym fed_is)
-          (λ k d l. fed_records_differ (get_or (take i ops) k d) (each k d l));
+            (λ k d l. fed_records_differ (get_or (take i ops) k d) (each k d l));
         last = subst (λ (xs : List Op). All (λ (a : Op). latest_finish a ≤ latest_finish op) xs) (sym fed_is)
-          (λ k d l. finishes_no_later (get_or (take i ops) k d) op (fed_finish_first (get_or (take i ops) k d) (each k d l)));
+            (λ k d l. finishes_no_later (get_or (take i ops) k d) op (fed_finish_first (get_or (take i ops) k d) (each k d l)));
       }
 
   -- it is no second write
@@ -91,24 +90,26 @@ module _ (values : ℕ) (ops : List Op) (can : CanAllBeFed values ops) (i : ℕ)
         | inl same ↦ fed_records_differ w ww.there same
         | inr apart ↦ elim apart [
           | inl low ↦ can.once op (record {
-              there = here; kind = second.kind;
-              earlier = (w, record { there = there; kind = ww.kind; value_is = ww.value_is }, low);
-            })
+            there = here;
+            kind = second.kind;
+            earlier = (w, record { there = there; kind = ww.kind; value_is = ww.value_is }, low);
+          })
           | inr high ↦ can.once w (record {
-              there = there; kind = ww.kind;
-              earlier = (op, record { there = here; kind = second.kind; value_is = sym ww.value_is }, high);
-            })
+            there = there;
+            kind = ww.kind;
+            earlier = (op, record { there = here; kind = second.kind; value_is = sym ww.value_is }, high);
+          })
         ]
       ]
 
   after_by : (answer : Fed) → IsFedAs (take i ops) op answer → fed_after (take i ops) op answer ≡ take (i + 1) ops
-  after_by Counted as = ap (λ (x : Op). take i ops ++ x ∷ []) is ∙ sym (take_more ops i op within)
-  after_by Waiting as = ap (λ (x : Op). take i ops ++ x ∷ []) is ∙ sym (take_more ops i op within)
-  after_by (Duplicate rec) as = absurd (no_second_write rec as)
+  after_by Counted fits = ap (λ (x : Op). take i ops ++ x ∷ []) is ∙ sym (take_more ops i op within)
+  after_by Waiting fits = ap (λ (x : Op). take i ops ++ x ∷ []) is ∙ sym (take_more ops i op within)
+  after_by (Duplicate rec) fits = absurd (no_second_write rec fits)
 
   -- and once it is fed, it stands last
   pub fed_next : (fed : List Op) (answer : Fed) → fed ≡ take i ops → IsFedAs fed op answer → fed_after fed op answer ≡ take (i + 1) ops
-  fed_next fed answer fed_is as = rw fed_is (after_by answer (rw fed_is at as))
+  fed_next fed answer fed_is fits = rw fed_is (after_by answer (rw fed_is at fits))
 
 -- what stands in a list with one item more stood there before, or is that item
 pushed_at : {X : Type 0} (xs : List X) (x : X) (n : ℕ) (y : X) → slice_get (xs ++ x ∷ []) n ≡ Some y → ((n < length xs) × (slice_get xs n ≡ Some y)) ⊎ ((n ≡ length xs) × (x ≡ y))
@@ -136,12 +137,12 @@ scores_pushed fed op scores score are is = record {
 
 changes_pushed : (before : Option ℕ) (fed : List Op) (op : Op) (scores : List (Option ℕ)) (score : Option ℕ) → length scores ≡ length fed
     → changes_of before (fed ++ op ∷ []) (scores ++ score ∷ []) ≡ changes_of before fed scores
-      ++ (if option_eq (λ x y. x == y) score (last_score before scores) then [] else record { rec = op.rec; score = score } ∷ [])
+    ++ (if option_eq (λ x y. x == y) score (last_score before scores) then [] else record { rec = op.rec; score = score } ∷ [])
 changes_pushed before [] op [] score same = append-nil _
 changes_pushed before [] op (s ∷ scores) score same = absurd (omega arith)
 changes_pushed before (a ∷ fed) op [] score same = absurd (omega arith)
 changes_pushed before (a ∷ fed) op (s ∷ scores) score same =
-    let first = if option_eq (λ (x : ℕ) (y : ℕ). x == y) s before then [] else record { rec = a.rec; score = s } ∷ [] in
+    let first : List Change = if option_eq (λ (x : ℕ) (y : ℕ). x == y) s before then [] else record { rec = a.rec; score = s } ∷ [] in
     ap (λ (xs : List Change). first ++ xs) (changes_pushed s fed op scores score (omega arith))
     ∙ sym (append_assoc first (changes_of s fed scores) (if option_eq (λ (x : ℕ) (y : ℕ). x == y) score (last_score s scores) then [] else record { rec = op.rec; score = score } ∷ []))
 
@@ -170,9 +171,9 @@ changes_next ops i op changes more before score within is so_far scored kept =
       scores = so_far.scores ++ score ∷ [];
       are_scores = scores_pushed fed op so_far.scores score so_far.are_scores (subst (λ (xs : List Op). IsScore xs score) next scored);
       changes_are =
-        kept
-        ∙ ap (λ (xs : List Change). xs ++ (if option_eq (λ (x : ℕ) (y : ℕ). x == y) score before then [] else record { rec = op.rec; score = score } ∷ [])) so_far.changes_are
-        ∙ sym (rw last at pushed);
+          kept
+          ∙ ap (λ (xs : List Change). xs ++ (if option_eq (λ (x : ℕ) (y : ℕ). x == y) score before then [] else record { rec = op.rec; score = score } ∷ [])) so_far.changes_are
+          ∙ sym (rw last at pushed);
       last_is = sym (last_pushed (Some 0) so_far.scores score);
     })
 
@@ -186,26 +187,54 @@ changes_of_all ops i changes score all so_far =
 pub all_fed : (ops fed : List Op) (i : ℕ) → length ops ≤ i → fed ≡ take i ops → fed ≡ ops
 all_fed ops fed i all is = is ∙ take_all i ops all
 
--- the operations of a valid key without duplicates can be fed in the order in which they finish
-pub sorted_can_be_fed : (key : KeyOps) (sorted : List Op) (values : ℕ) → IsValidKey key → HasNone (IsDuplicate (operations key)) → IsByFinish (operations key) (initial_write ∷ sorted)
-    → IsByFinish key.ops sorted → All (λ a. a.value ≤ values) key.ops → CanAllBeFed values sorted
-sorted_can_be_fed key sorted values valid once all by small =
-    let back = λ (a : Op) (c : Contains (initial_write ∷ sorted) a). Contains-permutation (initial_write ∷ sorted) (operations key) a (IsPermutation-sym (operations key) (initial_write ∷ sorted) all.same) c in
-    record {
-      valid = All-permutation (IsValidOp values) key.ops sorted by.same (λ k d l.
-          let v = valid.ops k d l in
-          record { numbered = v.numbered; starts = v.starts; ordered = v.ordered; tick = v.tick; ends = v.ends; slack = v.slack; value = small k d l });
-      by_finish = all.by_finish;
-      records = λ a b ca cb e. one_by_number (λ (x : Op). x.rec) (operations key) a b (valid_records_differ key valid) (back a ca) (back b cb) e;
-      once = λ a dup. once a (record {
-        there = back a dup.there; kind = dup.kind;
-        earlier = (let (w, ww, low) = dup.earlier in (w, record { there = back w ww.there; kind = ww.kind; value_is = ww.value_is }, low));
-      });
-    }
+-- the operations of a key, in the order in which they finish
+module _ (key : KeyOps) (ops sorted : List Op) (valid : IsValidKey key) (ops_are : ops ≡ key.ops) (by : IsByFinish ops sorted) (fed : List Op) (fed_are : fed ≡ sorted) where
+  own : IsByFinish key.ops sorted
+  own = subst (λ (xs : List Op). IsByFinish xs sorted) ops_are by
 
--- what is said of a key
-pub is_scored : (key : KeyOps) (sorted : List Op) (changes : List Change) (reads : ℕ) → HasNone (IsDuplicate (operations key)) → IsByFinish (operations key) (initial_write ∷ sorted)
-    → AreChanges sorted changes → reads ≡ waiting sorted → IsScored (operations key) changes reads
-is_scored key sorted changes reads once by are is = record {
-  no_duplicate = once; fed = sorted; by_finish = by; scores = are.scores; are_scores = are.are_scores; changes_are = are.changes_are; waiting_is = is;
-}
+  all_own : IsByFinish (operations key) (initial_write ∷ sorted)
+  all_own = initial_first key sorted valid own
+
+  -- each of them is one of the key
+  back : (a : Op) → Contains (initial_write ∷ sorted) a → Contains (operations key) a
+  back a c = Contains-permutation (initial_write ∷ sorted) (operations key) a (IsPermutation-sym (operations key) (initial_write ∷ sorted) all_own.same) c
+
+  -- they can be fed, where no value is written twice
+  pub sorted_can_be_fed : (values : ℕ) → HasNone (IsDuplicate (operations key)) → All (λ a. a.value ≤ values) ops → CanAllBeFed values fed
+  sorted_can_be_fed values once small =
+      let low = subst (λ (xs : List Op). All (λ (a : Op). a.value ≤ values) xs) ops_are small in
+      subst (λ (xs : List Op). CanAllBeFed values xs) (sym fed_are) (record {
+        valid = All-permutation (IsValidOp values) key.ops sorted own.same (λ k d l.
+            let v = valid.ops k d l in
+            record { numbered = v.numbered; starts = v.starts; ordered = v.ordered; tick = v.tick; ends = v.ends; slack = v.slack; value = low k d l });
+        by_finish = all_own.by_finish;
+        records = λ a b ca cb e. one_by_number (λ (x : Op). x.rec) (operations key) a b (valid_records_differ key valid) (back a ca) (back b cb) e;
+        once = λ a dup. once a (record {
+          there = back a dup.there;
+          kind = dup.kind;
+          earlier = let (w, ww, less) = dup.earlier in (w, record { there = back w ww.there; kind = ww.kind; value_is = ww.value_is }, less);
+        });
+      })
+
+  -- they are few
+  pub sorted_are_few : length fed ≤ 1000000
+  sorted_are_few =
+      let same = length_permutation key.ops sorted own.same in
+      let most = valid.few in
+      let e = ap (λ (xs : List Op). length xs) fed_are in
+      omega arith
+
+  -- what is said of the key, by the changes along them
+  pub is_scored : (made changes : List Change) (reads : ℕ) → HasNone (IsDuplicate (operations key)) → AreChanges fed made → reads ≡ waiting fed → changes ≡ made
+      → IsScored (operations key) changes reads
+  is_scored made changes reads once are waits same =
+      let here = subst (λ (xs : List Op). AreChanges xs made) fed_are are in
+      record {
+        no_duplicate = once;
+        fed = sorted;
+        by_finish = all_own;
+        scores = here.scores;
+        are_scores = here.are_scores;
+        changes_are = same ∙ here.changes_are;
+        waiting_is = waits ∙ ap (λ (xs : List Op). waiting xs) fed_are;
+      }

@@ -1,6 +1,6 @@
 -- A stable sort by finish, of operations by rising record, is the order in which they finish.
-use Rattle.std.proofs.Common.{◌≡◌, ◌⊎◌, ℕ, zero, suc, ◌+◌, ◌-◌, ◌<◌, ◌≤◌, ◌^◌, min, Bool, true, cond, List, [], ◌∷◌, length, get_or, map, refl, sym, ◌∙◌, ap, subst, inl, inr, arith}
-use Rattle.std.specs.Prelude.{All, AllPairs, Contains, not, ◌&&◌}
+use Rattle.std.proofs.Common.{◌≡◌, ◌⊎◌, ℕ, zero, suc, ◌+◌, ◌-◌, ◌<◌, ◌≤◌, ◌^◌, min, Bool, true, false, cond, List, [], ◌∷◌, length, get_or, refl, sym, subst, inl, inr, arith}
+use Rattle.std.specs.Prelude.{All, AllPairs, Contains, not}
 use Rattle.std.specs.List.{filter}
 use Rattle.std.specs.List.Sorted.{IsPermutation, IsNonDecreasingBy, IsStrictlyIncreasing, IsStableByKey, ties}
 use Rattle.std.specs.Ordering.{nat_cmp, is_lt}
@@ -52,14 +52,14 @@ module _ (key : Op → ℕ) where
     | inr m ↦
         let e : key a ≡ key b = omega arith in
         let rise : AllPairs (λ (x : Op) (y : Op). x.rec < y.rec) (a ∷ filter (ties_by key a) xs) =
-          subst (λ (t : Bool). AllPairs (λ (x : Op) (y : Op). x.rec < y.rec) (cond t (a ∷ filter (ties_by key a) xs) (filter (ties_by key a) xs))) (ties_where_equal key a a refl) pairs
+        subst (λ (t : Bool). AllPairs (λ (x : Op) (y : Op). x.rec < y.rec) (cond t (a ∷ filter (ties_by key a) xs) (filter (ties_by key a) xs))) (ties_where_equal key a a refl) pairs
         in
         inr (e, first_with_all (λ (x : Op) (y : Op). x.rec < y.rec) a b (filter (ties_by key a) xs) rise (kept_from (ties_by key a) xs b there (ties_where_equal key a b e)))
   ]
 
   -- where a number doesn't fall, and the records of those that tie rise
   stand_first : (xs : List Op) → IsNonDecreasingBy key xs → ((x : Op) → AllPairs (λ a b. a.rec < b.rec) (filter (ties_by key x) xs)) → AllPairs (StandsFirst key) xs
-  stand_first [] up rise i j d low high = absurd (omega arith)
+  stand_first [] up rise = λ i j d low high. absurd (omega arith)
   stand_first (a ∷ xs) up rise =
       AllPairs-cons (StandsFirst key) a xs
       (λ k d l. head_before a (get_or xs k d) xs (up zero (suc k) d (omega arith) (omega arith)) (k, l, get_or_default xs k (get_or xs k d) d l) (rise a))
@@ -83,14 +83,21 @@ from_capped a b sa sb (inl l) = inl (omega arith)
 from_capped a b sa sb (inr (e, l)) = inr (omega arith, l)
 
 -- the stable sort
-pub sorted_by_finish : (ops sorted : List Op) → All (λ a. latest_finish a < 2 ^ 64) ops → IsStrictlyIncreasing (records_of ops) → IsPermutation ops sorted → IsNonDecreasingBy capped_finish sorted
+sorted_by_finish : (ops sorted : List Op) → All (λ a. latest_finish a < 2 ^ 64) ops → IsStrictlyIncreasing (records_of ops) → IsPermutation ops sorted → IsNonDecreasingBy capped_finish sorted
     → IsStableByKey capped_finish nat_cmp ops sorted → IsByFinish ops sorted
 sorted_by_finish ops sorted small rising same up stable =
     let in_order = stand_first capped_finish sorted up
-      (λ x. subst (λ (xs : List Op). AllPairs (λ (a : Op) (b : Op). a.rec < b.rec) xs) (sym (stable x)) (AllPairs-filter (λ (a : Op) (b : Op). a.rec < b.rec) (ties_by capped_finish x) ops (records_rise ops rising)))
+    (λ x. subst (λ (xs : List Op). AllPairs (λ (a : Op) (b : Op). a.rec < b.rec) xs) (sym (stable x)) (AllPairs-filter (λ (a : Op) (b : Op). a.rec < b.rec) (ties_by capped_finish x) ops (records_rise ops rising)))
     in
     let small_too = All-permutation (λ (a : Op). latest_finish a < 2 ^ 64) ops sorted same small in
     record { same = same; by_finish = λ i j d low high. from_capped (get_or sorted i d) (get_or sorted j d) (small_too i d (omega arith)) (small_too j d high) (in_order i j d low high) }
+
+-- and that of a copy
+pub sorted_copy : (ops made sorted : List Op) → made ≡ ops → All (λ a. latest_finish a < 2 ^ 64) ops → IsStrictlyIncreasing (records_of ops) → IsPermutation made sorted → IsNonDecreasingBy capped_finish sorted
+    → IsStableByKey capped_finish nat_cmp made sorted → IsByFinish ops sorted
+sorted_copy ops made sorted same small rising moved up stable =
+    sorted_by_finish ops sorted small rising (subst (λ (xs : List Op). IsPermutation xs sorted) same moved) up
+    (subst (λ (xs : List Op). IsStableByKey capped_finish nat_cmp xs sorted) same stable)
 
 -- the finish of a valid operation is a 64-bit number
 pub finishes_are_small : (key : KeyOps) → IsValidKey key → All (λ a. latest_finish a < 2 ^ 64) key.ops
@@ -101,8 +108,8 @@ pub initial_first : (key : KeyOps) (sorted : List Op) → IsValidKey key → IsB
 initial_first key sorted valid by = record {
   same = IsPermutation-cons initial_write key.ops sorted by.same;
   by_finish = AllPairs-cons FinishesFirst initial_write sorted
-    (λ k d l.
+      (λ k d l.
       let v = All-permutation (IsValidOp (length key.values)) key.ops sorted by.same valid.ops k d l in
       let s = v.starts in let o = v.ordered in inl (omega arith))
-    by.by_finish;
+      by.by_finish;
 }

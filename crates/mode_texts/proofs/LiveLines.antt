@@ -1,19 +1,20 @@
 -- The lines of keys, and how many they are.
-use Rattle.std.proofs.Common.{◌≡◌, ℕ, zero, suc, ◌+◌, ◌<◌, ◌≤◌, ◌^◌, Bool, true, false, List, [], ◌∷◌, ◌++◌, length, map, get_or, take, refl, sym, ◌∙◌, ap, subst, arith, append_assoc, length-append}
-use Rattle.std.specs.Prelude.{◌==◌, if◌then◌else◌, flat_map, sum_by, Option, Some}
+use Rattle.std.proofs.Common.{◌≡◌, ℕ, ◌+◌, ◌<◌, ◌≤◌, Bool, true, false, List, [], ◌∷◌, ◌++◌, length, map, get_or, take, sym, ◌∙◌, ap, subst, arith, append_assoc, length-append}
+use Rattle.std.specs.Prelude.{◌==◌, if◌then◌else◌, Option, Some}
 use Rattle.std.specs.Option.{option_eq}
-use Rattle.std.proofs.lemmas.Bool.{cases_Bool}
 use Rattle.std.proofs.lemmas.List.{take_more, length-map}
 use Rattle.std.proofs.lemmas.List.Sums.{sum_by-append}
 use Rattle.std.proofs.lemmas.List.Sorted.{length_permutation}
 use Rattle.stale_model.specs.declared.Op.{Op}
 use Rattle.stale_model.specs.declared.KeyOps.{KeyOps}
+use Rattle.stale_model.specs.declared.History.{History}
 use Rattle.stale_model.specs.Operations.{operations, initial_write}
 use Rattle.stale_model.specs.Valid.{IsValidKey}
 use Rattle.mode_texts.specs.declared.live.Change.{Change}
 use Rattle.mode_texts.specs.declared.live.LiveVerdict.{LiveVerdict}
 use Rattle.mode_texts.specs.declared.live.LiveVerdict.TheVariants.{Duplicate, Scored}
-use Rattle.mode_texts.specs.LiveTexts.{IsLiveVerdict, changes_of, change_text, waiting_texts, said_of, live_key_text, lines_of}
+use Rattle.mode_texts.specs.LiveTexts.{IsLiveVerdict, changes_of, change_text, waiting_texts, said_of, live_key_text, lines_line, IsLiveText}
+use Rattle.mode_texts.specs.Measures.{keys_text}
 use Rattle.mode_texts.specs.LiveSteps.{IsLiveWritten, IsLiveWrittenBehind}
 use Rattle.mode_texts.proofs.Written.{each_key_has-push, keys_text-push}
 
@@ -57,9 +58,9 @@ one_more keys key before after lines more so_far next = record {
   true_of = each_key_has-push IsLiveVerdict keys so_far.verdicts key next.verdict so_far.true_of next.true_of;
   text_is = next.text_is ∙ ap (λ t. t ++ live_key_text key next.verdict) so_far.text_is ∙ sym (keys_text-push IsLiveVerdict live_key_text keys so_far.verdicts key next.verdict so_far.true_of.as_many);
   lines_are =
-    let e = so_far.lines_are in
-    let f = next.lines_are in
-    omega (arith, sum_by-append (λ (v : LiveVerdict). length (said_of v)) so_far.verdicts (next.verdict ∷ []));
+      let e = so_far.lines_are in
+      let f = next.lines_are in
+      omega (arith, sum_by-append (λ (v : LiveVerdict). length (said_of v)) so_far.verdicts (next.verdict ∷ []));
 }
 
 -- the key at the next place is written behind what is written of the keys before it
@@ -68,3 +69,17 @@ pub next_written : (keys : List KeyOps) (i : ℕ) (key : KeyOps) (before after :
 next_written keys i key before after lines more within is so_far next =
     let e : take (i + 1) keys ≡ take i keys ++ key ∷ [] = take_more keys i key within ∙ ap (λ k. take i keys ++ k ∷ []) (sym is) in
     subst (λ (ks : List KeyOps). IsLiveWritten ks after (lines + more)) (sym e) (one_more (take i keys) key before after lines more so_far next)
+
+-- a label, a number and an end of line, one behind the other
+pub three_pushed : (old label number eol mid new : List ℕ) → mid ≡ old ++ label ++ number → new ≡ mid ++ eol → new ≡ old ++ (label ++ number ++ eol)
+three_pushed old label number eol mid new first second =
+    let regrouped : ((old ++ label) ++ number) ++ eol ≡ old ++ ((label ++ number) ++ eol) = simp append_assoc in
+    second ∙ ap (λ (m : List ℕ). m ++ eol) first ∙ regrouped
+
+-- the lines of all keys and the last line are the text
+pub whole_text : (history : History) (before text : List ℕ) (lines : ℕ) → IsLiveWritten history.keys before lines → text ≡ before ++ lines_line lines → IsLiveText history text
+whole_text history before text lines written is = record {
+  verdicts = written.verdicts;
+  true_of = written.true_of;
+  text_is = is ∙ ap (λ (b : List ℕ). b ++ lines_line lines) written.text_is ∙ ap (λ (n : ℕ). keys_text live_key_text history.keys written.verdicts ++ lines_line n) written.lines_are;
+}

@@ -39,26 +39,33 @@ fn keep_change(
     rec: u32,
     before: Option<u64>,
     score: Option<u64>,
-) -> Result<(), AllocError>
+) -> Result<(), Memory>
     ensures { OnOk result (changes.new.items ≡ changes.old.items
         ++ (if option_eq (λ x y. x == y) score before
-            then [] else record { rec = rec; score = score } ∷ [])) }
+        then [] else record { rec = rec; score = score } ∷ [])) }
 {
     if score == before {
         return Ok(());
     }
     match changes.push(Change { rec, score }) {
         Ok(()) => Ok(()),
-        Err(_) => Err(AllocError),
+        Err(_) => Err(Memory),
     }
 }
 
-// The changes of the score along operations with values of at most `values`, and how many reads wait after the last.
-fn changes_along(alloc: Global, values: u32, ops: &[Op]) -> Result<(Vec<Change>, u32), Memory>
+// The changes of the score along operations that were fed, and how many reads wait after the last.
+#[derive(Drop)]
+struct FedChanges {
+    changes: Vec<Change>,
+    waiting: u32,
+}
+
+// The changes along operations with values of at most `values`.
+fn changes_along(alloc: Global, values: u32, ops: &[Op]) -> Result<FedChanges, Memory>
     requires can { CanAllBeFed values ops.now }
     requires few { length ops.now ≤ 1000000 }
-    ensures changes { IfOk result (λ r. AreChanges ops.now r.0.items) }
-    ensures waiting { IfOk result (λ r. r.1 ≡ waiting ops.now) }
+    ensures changes { IfOk result (λ fed. AreChanges ops.now fed.changes.items) }
+    ensures waiting { IfOk result (λ fed. fed.waiting ≡ waiting ops.now) }
 {
     let mut live = Live::prepare(alloc, ops.len() as u32, values)?;
     let mut changes = Vec::new(alloc);
@@ -67,9 +74,12 @@ fn changes_along(alloc: Global, values: u32, ops: &[Op]) -> Result<(Vec<Change>,
         let before = score;
         live.feed(op);
         score = live.score();
-        keep_change(&mut changes, op.rec, before, score).map_err(|_| Memory)?;
+        keep_change(&mut changes, op.rec, before, score)?;
     }
-    Ok((changes, live.waiting()))
+    Ok(FedChanges {
+        changes,
+        waiting: live.waiting(),
+    })
 }
 
 /// What is said of a key that writes no value twice.
@@ -79,10 +89,12 @@ pub(crate) fn scored(alloc: Global, key: &KeyOps) -> Result<LiveVerdict, Memory>
     ensures { IfOk result (IsLiveVerdict (operations key.now)) }
 {
     let ops = key.ops.as_slice();
-    let sorted = in_finish_order(alloc, ops).map_err(|_| Memory)?;
-    let (changes, waiting) = changes_along(alloc, greatest_value(ops), &sorted)?;
+    let Ok(sorted) = in_finish_order(alloc, ops) else {
+        return Err(Memory);
+    };
+    let fed = changes_along(alloc, greatest_value(ops), sorted.as_slice())?;
     Ok(LiveVerdict::Scored {
-        changes: List::from_vec(changes),
-        waiting,
+        changes: List::from_vec(fed.changes),
+        waiting: fed.waiting,
     })
 }

@@ -6,7 +6,7 @@ ghost use Rattle.std.specs.Fmt.{decimal};
 ghost use Rattle.stale_model.specs.Operations.{operations};
 ghost use Rattle.stale_model.specs.Valid.{IsValidKey, IsValidHistory};
 ghost use Rattle.stale_model.specs.Faults.{HasNone, IsDuplicate, IsDuplicateKey};
-ghost use Rattle.mode_texts.specs.LiveTexts.{IsLiveVerdict, IsLiveText, score_text, change_text, waiting_texts, said_of, key_line, live_key_text};
+ghost use Rattle.mode_texts.specs.LiveTexts.{IsLiveVerdict, IsLiveText, score_text, change_text, waiting_texts, said_of, key_line, live_key_text, lines_line};
 ghost use Rattle.mode_texts.specs.LiveSteps.{IsLiveWritten, IsLiveWrittenBehind};
 
 use crate::changes::scored;
@@ -177,19 +177,36 @@ fn write_key(alloc: Global, key: &KeyOps, text: &mut String) -> Result<u64, Memo
     Ok(line_count(&verdict))
 }
 
-// The lines of all keys, and how many they are.
-fn keys_text(alloc: Global, keys: &[KeyOps]) -> Result<(String, u64), Memory>
+// A text, and how many lines it has.
+#[derive(Drop)]
+struct Lines {
+    text: String,
+    count: u64,
+}
+
+// The lines of all keys.
+fn keys_text(alloc: Global, keys: &[KeyOps]) -> Result<Lines, Memory>
     requires valid { All IsValidKey keys.now }
     requires few { length keys.now ≤ 1000000 }
-    ensures { IfOk result (λ written. IsLiveWritten keys.now
-        (string_bytes written.0) written.1) }
+    ensures { IfOk result (λ lines. IsLiveWritten keys.now
+        (string_bytes lines.text) lines.count) }
 {
     let mut text = String::new(alloc);
-    let mut lines = 0;
+    let mut count = 0;
     for key in keys {
-        lines += write_key(alloc, key, &mut text)?;
+        let more = write_key(alloc, key, &mut text)?;
+        count += more;
     }
-    Ok((text, lines))
+    Ok(Lines { text, count })
+}
+
+// Puts the last line behind a text, for the number of lines before it.
+fn push_total(text: &mut String, lines: u64) -> Result<(), AllocError>
+    ensures { OnOk result (string_bytes text.new ≡ string_bytes text.old ++ lines_line lines) }
+{
+    push_count(text, "total lines ", lines)?;
+    text.push_str("\n")?;
+    Ok(())
 }
 
 /// What `live` writes of a history: for each key, in the order of the keys, `key NAME record R delta D`, or `key NAME
@@ -204,8 +221,9 @@ pub fn live_text(alloc: Global, history: &History) -> Result<Bytes, Memory>
     requires { IsValidHistory history.now }
     ensures { IfOk result (IsLiveText history.now) }
 {
-    let (mut text, lines) = keys_text(alloc, history.keys.as_slice())?;
-    push_count(&mut text, "total lines ", lines).map_err(|_| Memory)?;
-    text.push_str("\n").map_err(|_| Memory)?;
-    Ok(Bytes::from_vec(text.into_bytes()))
+    let Lines { mut text, count } = keys_text(alloc, history.keys.as_slice())?;
+    match push_total(&mut text, count) {
+        Ok(()) => Ok(Bytes::from_vec(text.into_bytes())),
+        Err(_) => Err(Memory),
+    }
 }

@@ -6,6 +6,6 @@ use Rattle.mode_texts.proofs.live.keys_text.Given as goal
 
 abbrev pub invariant-loop-key : goal.invariant-loop-key
 invariant-loop-key l = record {
-  written : IsLiveWritten (take l.key-index l.keys) (string_bytes l.text) l.lines;
-  few : l.lines ≤ 1000001 * l.key-index;
+  written : IsLiveWritten (take l.key-index l.keys) (string_bytes l.text) l.count;
+  few : l.count ≤ 1000001 * l.key-index;
 }
