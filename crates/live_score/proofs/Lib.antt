@@ -10,3 +10,6 @@ pub mod Scores
 pub mod Scoring
 pub mod Stands
 pub mod Starting
+mod Parts
+mod CountedParts
+mod LastScores

@@ -6,3 +6,4 @@ pub mod Placing
 pub mod Rows
 pub mod Scores
 pub mod Trees
+pub mod Laws

@@ -1,2 +1,5 @@
 mod Leasts
 mod Written
+mod Finishing
+mod Feeding
+mod LiveLines

@@ -24,7 +24,7 @@ module _ {V : Type 0} (Says : List Op → V → Type 0) where
   each-push (h ∷ hs) (w ∷ ws) key verdict same each says (suc i) k v at there =
       each-push hs ws key verdict (omega arith) (λ j x y at_j there_j. each (suc j) x y at_j there_j) says i k v at there
 
-  each_key_has-push : (keys : List KeyOps) (verdicts : List V) (key : KeyOps) (verdict : V) → EachKeyHas Says keys verdicts → Says (operations key) verdict
+  pub each_key_has-push : (keys : List KeyOps) (verdicts : List V) (key : KeyOps) (verdict : V) → EachKeyHas Says keys verdicts → Says (operations key) verdict
       → EachKeyHas Says (keys ++ key ∷ []) (verdicts ++ verdict ∷ [])
   each_key_has-push keys verdicts key verdict has says = record {
     as_many = let e = has.as_many in omega (arith, length-append verdicts (verdict ∷ []), length-append keys (key ∷ []));
@@ -32,7 +32,7 @@ module _ {V : Type 0} (Says : List Op → V → Type 0) where
   }
 
   module _ (key_text : KeyOps → V → List ℕ) where
-    keys_text-push : (keys : List KeyOps) (verdicts : List V) (key : KeyOps) (verdict : V) → length verdicts ≡ length keys
+    pub keys_text-push : (keys : List KeyOps) (verdicts : List V) (key : KeyOps) (verdict : V) → length verdicts ≡ length keys
         → keys_text key_text (keys ++ key ∷ []) (verdicts ++ verdict ∷ []) ≡ keys_text key_text keys verdicts ++ key_text key verdict
     keys_text-push [] [] key verdict same = append-nil (key_text key verdict)
     keys_text-push [] (v ∷ vs) key verdict same = absurd (omega arith)

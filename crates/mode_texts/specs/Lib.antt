@@ -4,3 +4,4 @@ pub mod TwoTexts
 pub mod SidesTexts
 pub mod LiveTexts
 pub mod Counting
+pub mod LiveSteps

@@ -111,6 +111,7 @@ fn demand_texts<R: Abort>(
     history: &History,
     two: &str,
     sides: &str,
+    live: &str,
 ) -> Result<(), Fail>
     requires { IsValidHistory history.now }
 {
@@ -118,6 +119,8 @@ fn demand_texts<R: Abort>(
     assert_eq!(rt; text.as_slice(), two.as_bytes());
     let text = sides_text(alloc, history)?;
     assert_eq!(rt; text.as_slice(), sides.as_bytes());
+    let text = live_text(alloc, history)?;
+    assert_eq!(rt; text.as_slice(), live.as_bytes());
     Ok(())
 }
 
@@ -131,6 +134,7 @@ fn a_read_of_the_last_write_but_one(rt: HostRuntime) -> Result<(), Fail> {
         &history,
         "key x two 0\norder 0 1 2 3\ntotal keys 1 zero 1 worst 0\n",
         "key x sides 1 pair 1 2 2 3\norder 0 2 1 3\ntotal keys 1 zero 0 worst 1\n",
+        "key x record 3 delta 3\ntotal lines 1\n",
     )
 }
 
@@ -150,6 +154,7 @@ fn a_read_of_the_last_write_but_two(rt: HostRuntime) -> Result<(), Fail> {
         &history,
         "key x two 3\norder 0 1 2 4 3 5\nstuck 3 2 1 0\ntry 3 soft 3 5 4\ntry 2 hard 2 3\ntry 1 hard 1 3\ntry 0 hard 0 3\ntotal keys 1 zero 0 worst 3\n",
         "key x sides 3 pair 1 5 2 4\norder 0 3 1 4 2 5\ntotal keys 1 zero 0 worst 3\n",
+        "key x record 4 delta 5\nkey x record 5 delta 6\ntotal lines 2\n",
     )
 }
 
@@ -169,6 +174,7 @@ fn two_writes_at_one_time(rt: HostRuntime) -> Result<(), Fail> {
         &history,
         "key x two 1\norder 0 1 2 4 5 3\nstuck 3 2 1 0\ntry 3 soft 3 5 4\ntry 2 hard 2 3\ntry 1 hard 1 3\ntry 0 hard 0 3\ntotal keys 1 zero 0 worst 1\n",
         "key x sides 2 pair 1 4 2 5\norder 0 3 1 5 2 4\ntotal keys 1 zero 0 worst 2\n",
+        "key x record 4 delta 1\nkey x record 5 delta 3\ntotal lines 2\n",
     )
 }
 
@@ -182,6 +188,7 @@ fn reads_of_absent(rt: HostRuntime) -> Result<(), Fail> {
         &history,
         "key x two 0\norder 0 1 2 3\ntotal keys 1 zero 1 worst 0\n",
         "key x sides 1 pair 0 2 2 3\norder 0 1 3 2\ntotal keys 1 zero 0 worst 1\n",
+        "key x record 3 delta 2\ntotal lines 1\n",
     )
 }
 
@@ -195,6 +202,7 @@ fn a_read_before_its_write(rt: HostRuntime) -> Result<(), Fail> {
         &history,
         "key x infinite 1\ntotal keys 1 zero 0 worst none\n",
         "key x sides 2 early 1\norder 0 2 1\ntotal keys 1 zero 0 worst 2\n",
+        "key x record 2 infinite\ntotal lines 1\n",
     )
 }
 
@@ -215,6 +223,7 @@ fn a_read_before_its_write_that_does_not_decide(rt: HostRuntime) -> Result<(), F
         &history,
         "key x infinite 4\ntotal keys 1 zero 0 worst none\n",
         "key x sides 3 pair 1 5 4 3\norder 0 2 1 3 5 4\ntotal keys 1 zero 0 worst 3\n",
+        "key x record 5 infinite\ntotal lines 1\n",
     )
 }
 
@@ -227,6 +236,7 @@ fn keys_of_each_kind(rt: HostRuntime) -> Result<(), Fail> {
         &history,
         "key x unmatched 4\nkey y duplicate 3\nkey z two 0\norder 0 5 6 7\nkey w infinite 8\ntotal keys 4 zero 1 worst 0\n",
         "key x unmatched 4\nkey y duplicate 3\nkey z sides 1 pair 0 6 6 7\norder 0 5 7 6\nkey w sides 1 early 8\norder 0 9 8\ntotal keys 4 zero 0 worst 1\n",
+        "key x waiting 1\nkey y duplicate 3\nkey z record 7 delta 2\nkey w record 9 infinite\ntotal lines 4\n",
     )
 }
 
@@ -238,5 +248,12 @@ fn no_key(rt: HostRuntime) -> Result<(), Fail> {
         skipped: 0,
     };
     let text = "total keys 0 zero 0 worst none\n";
-    demand_texts(&rt, rt.alloc(), &history, text, text)
+    demand_texts(
+        &rt,
+        rt.alloc(),
+        &history,
+        text,
+        text,
+        "total lines 0\n",
+    )
 }
