@@ -18,6 +18,7 @@ returns-then-are_in_order c =
     )
 
 pub returns-else-are_in_order : goal.returns-else-are_in_order
-returns-else-are_in_order c =
-    let fails = λ h. c.are_in_order.ensures.1 (order_from_timed c.args.clients c.args.entries.now c.args.journals.now c.args.groups.now c.requires.groups h) in
-    (λ t. absurd (both_ways c.are_in_order.result c.if-are_in_order.false t), λ h. fails h)
+returns-else-are_in_order c = (
+  λ t. absurd (both_ways c.are_in_order.result c.if-are_in_order.false t),
+  λ h. c.are_in_order.ensures.1 (order_from_timed c.args.clients c.args.entries.now c.args.journals.now c.args.groups.now c.requires.groups h),
+)
