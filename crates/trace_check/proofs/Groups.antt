@@ -57,7 +57,7 @@ module _ (settings : Settings) (plan : Plan) (entries : List Entry) where
       → ArePlanned settings plan entries
   planned_from_groups many all each =
       let own : (client : ℕ) → client < settings.clients → AreCalls (calls_of plan client) (entries_of client entries) = λ client low.
-      subst (λ (es : List Entry). AreCalls (calls_of plan client) es) (group_at settings.clients entries client low) (each client low) in
+        subst (λ (es : List Entry). AreCalls (calls_of plan client) es) (group_at settings.clients entries client low) (each client low) in
       record {
         clients = all;
         as_many = λ client low. (own client low).as_many;

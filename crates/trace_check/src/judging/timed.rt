@@ -97,10 +97,5 @@ pub(crate) fn are_timed(
     ensures { IfOk result (λ holds. IsTrue holds ↔ AreTimed entries.now journals.now) }
 {
     let tickets = tickets_of(alloc, entries, journals)?;
-    Ok(
-        are_rising(entries)
-            && are_ordered(entries)
-            && are_each_one_by_one(groups)
-            && are_distinct(tickets),
-    )
+    Ok(are_rising(entries) && are_ordered(entries) && are_each_one_by_one(groups) && are_distinct(tickets))
 }
