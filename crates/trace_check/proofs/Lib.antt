@@ -3,6 +3,9 @@ pub mod Tickets
 pub mod LineSteps
 pub mod Replies
 pub mod Definite
+pub mod Serving
+pub mod Taking
+pub mod Sending
 pub mod Neighbours
 pub mod Groups
 pub mod FirstFailing

@@ -3,7 +3,7 @@ ghost use Rattle.std.specs.Prelude.{◌≡◌, ◌≢◌, ◌⊎◌, ◌<◌, �
 ghost use Rattle.trace_check.specs.Reading.{trace_of};
 
 mod files;
-mod replies;
+pub(crate) mod replies;
 
 use crate::Trace;
 use crate::reading::files::{calls_read, entries_read};

@@ -9,8 +9,8 @@ use stale_model::{Entry, JournalEntry, List, MOST_REPLICAS, Memory, Reply, Took}
 use std::alloc::Global;
 use std::collections::BTreeMap;
 
-// A reply, as the call that took it keeps it.
-fn took_of(reply: &Reply) -> Took
+/// A reply, as the call that took it keeps it.
+pub(crate) fn took_of(reply: &Reply) -> Took
     ensures { result ≡ took_of reply.now }
 {
     Took {
