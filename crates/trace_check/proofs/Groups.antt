@@ -1,18 +1,18 @@
 -- The entries of each client, and what holds of a run where it holds of the entries of each.
-use Rattle.std.proofs.Common.{◌≡◌, ◌⊎◌, ℕ, ◌+◌, ◌<◌, ◌≤◌, List, [], length, get_or, map, refl, sym, subst, ap, inl, inr, arith, cases_lt, eqb-true}
-use Rattle.std.specs.Prelude.{◌==◌, Some, All, slice_get}
+use Rattle.std.proofs.Common.{◌≡◌, ℕ, ◌<◌, List, [], length, get_or, map, sym, ◌∙◌, subst, ap, arith, eqb-true}
+use Rattle.std.specs.Prelude.{◌==◌, true, Some, All, slice_get}
 use Rattle.std.specs.List.{range_with_len}
-use Rattle.std.proofs.lemmas.List.{get_or_past}
 use Rattle.std.proofs.lemmas.List.Elements.{All-get_or, All-from_get_or, All-map, All-filter, filter_passes}
 use Rattle.std.proofs.lemmas.List.FromFn.{get_or-map-range_with_len, length-map-range_with_len}
 use Rattle.std.proofs.lemmas.Option.{slice_get_within, get_or_from_slice_get}
 use Rattle.stale_model.specs.declared.store.Settings.{Settings}
-use Rattle.stale_model.specs.declared.store.PlanCall.{PlanCall}
 use Rattle.stale_model.specs.declared.store.Plan.{Plan}
+use Rattle.stale_model.specs.declared.store.JournalEntry.{JournalEntry}
 use Rattle.stale_model.specs.declared.store.Entry.{Entry}
+use Rattle.stale_model.specs.Orders.{IsWithoutRepeats}
 use Rattle.stale_model.specs.Settings.{calls_of}
-use Rattle.stale_model.specs.RecordedRuns.{entries_of, IsAsPlanned, ArePlanned}
-use Rattle.trace_check.specs.CallSteps.{AreCalls, AreOneByOne}
+use Rattle.stale_model.specs.RecordedRuns.{entries_of, tickets_of, ArePlanned, AreTimed}
+use Rattle.trace_check.specs.CallSteps.{AreCalls, AreOneByOne, AreInOrder}
 
 -- the entries of each of so many clients
 abbrev pub groups_of : ℕ → List Entry → List (List Entry)
@@ -50,22 +50,44 @@ module _ (clients : ℕ) (entries : List Entry) where
       All-map AreOneByOne (λ c. entries_of c entries) (range_with_len 0 clients)
       (All-from_get_or (λ c. AreOneByOne (entries_of c entries)) (range_with_len 0 clients) 0 (λ i low. each (get_or (range_with_len 0 clients) i 0)))
 
+  -- so the order of a run is that of its groups, where no ticket stands twice
+  pub timed_from_order : (journals : List (List JournalEntry)) (groups : List (List Entry)) → groups ≡ groups_of clients entries → All (λ e. e.client < clients) entries
+      → AreInOrder entries groups → IsWithoutRepeats (tickets_of entries journals) → AreTimed entries journals
+  timed_from_order journals groups is all order once =
+      let own : All AreOneByOne (groups_of clients entries) = subst (λ (gs : List (List Entry)). All AreOneByOne gs) is order.one_by_one in
+      record { rising = order.rising; ordered = order.ordered; one_by_one = each_one_by_one all own; once = once }
+
+  pub order_from_timed : (journals : List (List JournalEntry)) (groups : List (List Entry)) → groups ≡ groups_of clients entries → AreTimed entries journals → AreInOrder entries groups
+  order_from_timed journals groups is timed = record {
+    rising = timed.rising;
+    ordered = timed.ordered;
+    one_by_one = subst (λ (gs : List (List Entry)). All AreOneByOne gs) (sym is) (groups_one_by_one timed.one_by_one);
+  }
+
 module _ (settings : Settings) (plan : Plan) (entries : List Entry) where
+  own_calls : (groups : List (List Entry)) → groups ≡ groups_of settings.clients entries → (client : ℕ) → client < settings.clients
+      → (client < length groups) × (get_or groups client [] ≡ entries_of client entries)
+  own_calls groups is client low =
+      let long : length groups ≡ settings.clients = ap length is ∙ groups_length settings.clients entries in
+      (omega arith, ap (λ (gs : List (List Entry)). get_or gs client []) is ∙ group_at settings.clients entries client low)
+
   -- each client made its planned calls, where its group is as planned
-  pub planned_from_groups : length plan.clients ≡ settings.clients → All (λ e. e.client < settings.clients) entries
-      → ((client : ℕ) → client < settings.clients → AreCalls (calls_of plan client) (get_or (groups_of settings.clients entries) client []))
-      → ArePlanned settings plan entries
-  planned_from_groups many all each =
+  pub planned_from_groups : (groups : List (List Entry)) → groups ≡ groups_of settings.clients entries → All (λ e. e.client < settings.clients) entries
+      → ((client : ℕ) → client < length groups → AreCalls (calls_of plan client) (get_or groups client [])) → ArePlanned settings plan entries
+  planned_from_groups groups is all each =
       let own : (client : ℕ) → client < settings.clients → AreCalls (calls_of plan client) (entries_of client entries) = λ client low.
-        subst (λ (es : List Entry). AreCalls (calls_of plan client) es) (group_at settings.clients entries client low) (each client low) in
+        let (within, same) = own_calls groups is client low in
+        subst (λ (es : List Entry). AreCalls (calls_of plan client) es) same (each client within) in
       record {
         clients = all;
         as_many = λ client low. (own client low).as_many;
         each = λ client k e call ate atc. (own client (client_within settings.clients entries all client k e ate)).each k e call ate atc;
       }
 
-  pub groups_from_planned : ArePlanned settings plan entries → (client : ℕ) → client < settings.clients
-      → AreCalls (calls_of plan client) (get_or (groups_of settings.clients entries) client [])
-  groups_from_planned planned client low =
+  pub groups_from_planned : (groups : List (List Entry)) → groups ≡ groups_of settings.clients entries → ArePlanned settings plan entries
+      → (client : ℕ) → client < length groups → AreCalls (calls_of plan client) (get_or groups client [])
+  groups_from_planned groups is planned client within =
+      let long : length groups ≡ settings.clients = ap length is ∙ groups_length settings.clients entries in
+      let low : client < settings.clients = omega arith in
       let own : AreCalls (calls_of plan client) (entries_of client entries) = record { as_many = planned.as_many client low; each = planned.each client } in
-      subst (λ (es : List Entry). AreCalls (calls_of plan client) es) (sym (group_at settings.clients entries client low)) own
+      subst (λ (es : List Entry). AreCalls (calls_of plan client) es) (sym (own_calls groups is client low).1) own

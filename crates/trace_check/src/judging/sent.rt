@@ -103,12 +103,7 @@ fn take_next(replica: u32, calls: &[List<Entry>], due: &mut [Due], request: &Req
 
 // Whether the journal of a replica has of each client the next requests that it sends there. Where it has, what is due
 // is what the clients send after them.
-fn take_all(
-    replica: u32,
-    calls: &[List<Entry>],
-    due: &mut [Due],
-    journal: &[JournalEntry],
-) -> bool
+fn take_all(replica: u32, calls: &[List<Entry>], due: &mut [Due], journal: &[JournalEntry]) -> bool
     requires clients { All (λ j. j.request.client < length calls.now) journal.now }
     requires each { length due.old ≡ length calls.now }
     ensures { AreFirstOf replica calls.now due.old due.new journal.now result }
@@ -147,7 +142,12 @@ fn all_calls(alloc: Global, clients: usize) -> Result<Vec<Due>, Memory>
 }
 
 // Whether the journal of a replica has of each client what its calls send there, where all of them are due.
-fn has_all_due(replica: u32, calls: &[List<Entry>], due: &mut [Due], journal: &[JournalEntry]) -> bool
+fn has_all_due(
+    replica: u32,
+    calls: &[List<Entry>],
+    due: &mut [Due],
+    journal: &[JournalEntry],
+) -> bool
     requires clients { All (λ j. j.request.client < length calls.now) journal.now }
     requires due { due.old ≡ replicate (length calls.now) all_due }
     ensures { IsTrue result ↔ HasAllSent replica calls.now journal.now }
@@ -173,8 +173,13 @@ fn is_sent(
 }
 
 // Whether the journal of each replica has of each client what its calls send there.
-fn are_all_sent(alloc: Global, calls: &[List<Entry>], journals: &[List<JournalEntry>]) -> Result<bool, Memory>
-    requires clients { (replica : ℕ) → All (λ j. j.request.client < length calls.now) (journal_of journals.now replica) }
+fn are_all_sent(
+    alloc: Global,
+    calls: &[List<Entry>],
+    journals: &[List<JournalEntry>],
+) -> Result<bool, Memory>
+    requires clients { (replica : ℕ)
+        → All (λ j. j.request.client < length calls.now) (journal_of journals.now replica) }
     requires few { length journals.now < 2 ^ 32 }
     ensures { IfOk result (λ holds. IsTrue holds ↔ ((replica : ℕ) → replica < length journals.now
         → HasAllSent replica calls.now (journal_of journals.now replica))) }

@@ -25,7 +25,8 @@ fn held_of(held: &BTreeMap<u32, HeldPair>, key: u32) -> HeldPair
 
 // Holds the pair of a write or a repair, where its stamp is greater than what is held of its key.
 fn hold(held: &mut BTreeMap<u32, HeldPair>, entry: &JournalEntry) -> Result<(), Memory>
-    ensures { IfOk result (λ _. (key : ℕ) → held_in held.new key ≡ held_after (held_in held.old key) key (entry.now ∷ [])) }
+    ensures { IfOk result (λ _. (key : ℕ) → held_in held.new key
+        ≡ held_after (held_in held.old key) key (entry.now ∷ [])) }
 {
     let key = entry.request.key;
     let pair = HeldPair {

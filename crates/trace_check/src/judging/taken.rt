@@ -11,9 +11,7 @@ ghost use Rattle.trace_check.specs.TakingSteps.{IsByTicket, AreByTicket, AreServ
 
 use crate::reading::replies::took_of;
 use quorum_client::freshest;
-use stale_model::{
-    Ask, Entry, JournalEntry, Kind, List, MOST_REPLICAS, Memory, Settings, Took,
-};
+use stale_model::{Ask, Entry, JournalEntry, Kind, List, MOST_REPLICAS, Memory, Settings, Took};
 use std::alloc::Global;
 use std::collections::BTreeMap;
 
@@ -88,7 +86,10 @@ fn by_ticket(alloc: Global, journal: &[JournalEntry]) -> Result<ByTicket<'_>, Me
 }
 
 // The entries of each journal by their serve tickets.
-fn all_by_ticket(alloc: Global, journals: &[List<JournalEntry>]) -> Result<Vec<ByTicket<'_>>, Memory>
+fn all_by_ticket(
+    alloc: Global,
+    journals: &[List<JournalEntry>],
+) -> Result<Vec<ByTicket<'_>>, Memory>
     ensures { IfOk result (λ lookups. AreByTicket journals.now lookups.items) }
 {
     let mut lookups = Vec::new(alloc);

@@ -4,7 +4,7 @@ ghost use Rattle.std.specs.List.{range_with_len};
 ghost use Rattle.std.specs.List.Sorted.{IsStrictlyIncreasing};
 ghost use Rattle.stale_model.specs.Orders.{IsWithoutRepeats};
 ghost use Rattle.stale_model.specs.RecordedRuns.{entries_of, tickets_of, AreTimed};
-ghost use Rattle.trace_check.specs.CallSteps.{AreOneByOne};
+ghost use Rattle.trace_check.specs.CallSteps.{AreInOrder, AreOneByOne};
 
 use stale_model::{Entry, JournalEntry, List, Memory};
 use std::alloc::Global;
@@ -35,6 +35,13 @@ fn are_each_one_by_one(groups: &[List<Entry>]) -> bool
     ensures { IsTrue result ↔ All AreOneByOne groups.now }
 {
     groups.iter().all(|own| are_one_by_one(own.as_slice()))
+}
+
+// Whether entries stand by rising start, each finished after it started, and each client made one call after the other.
+fn are_in_order(entries: &[Entry], groups: &[List<Entry>]) -> bool
+    ensures { IsTrue result ↔ AreInOrder entries.now groups.now }
+{
+    are_rising(entries) && are_ordered(entries) && are_each_one_by_one(groups)
 }
 
 // The start and the finish of each entry.
@@ -97,5 +104,5 @@ pub(crate) fn are_timed(
     ensures { IfOk result (λ holds. IsTrue holds ↔ AreTimed entries.now journals.now) }
 {
     let tickets = tickets_of(alloc, entries, journals)?;
-    Ok(are_rising(entries) && are_ordered(entries) && are_each_one_by_one(groups) && are_distinct(tickets))
+    Ok(are_in_order(entries, groups) && are_distinct(tickets))
 }

@@ -20,8 +20,7 @@ returns-then-not-branch c =
     let journals = c.args.journals.now in
     let r = c.loop-replica.replica in
     let less : r < length journals = omega arith in
-    let same : c.as_slice.result.now ≡ journal_of journals r = c.as_slice.ensures ∙ get_or_read journals r c.index-journals-replica.result less c.index-journals-replica.is [] in
-    (
+    let same : c.as_slice.result.now ≡ journal_of journals r = c.as_slice.ensures ∙ get_or_read journals r c.index-journals-replica.result less c.index-journals-replica.is [] in (
       (λ no. absurd (cc no)),
       (λ all.
           let yes : c.in_ok-is_sent.field-0 ≡ true = c.in_ok-is_sent.ensures.1 (subst (λ (l : List JournalEntry). HasAllSent r c.args.calls.now l) (sym same) (all r less)) in

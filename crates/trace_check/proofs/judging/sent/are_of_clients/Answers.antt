@@ -10,8 +10,7 @@ returns-then-not-is_of_clients c =
     let journals = c.args.journals.now in
     let r = c.loop-journal.journal-index in
     let less : r < length journals = omega arith in
-    let same : c.as_slice.result.now ≡ journal_of journals r = c.as_slice.ensures ∙ get_or_read journals r c.journal-item.result less c.journal-item.is [] in
-    (
+    let same : c.as_slice.result.now ≡ journal_of journals r = c.as_slice.ensures ∙ get_or_read journals r c.journal-item.result less c.journal-item.is [] in (
       (λ no. absurd (cc no)),
       (λ all. c.if-not-is_of_clients.ensures.1 (subst (λ (l : List JournalEntry). All (λ j. j.request.client < c.args.clients) l) (sym same) (all r))),
     )

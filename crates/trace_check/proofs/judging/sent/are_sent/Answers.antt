@@ -15,8 +15,7 @@ returns c =
     let clients = c.args.settings.now.clients in
     let calls = c.as_slice.result.now in
     let is : calls ≡ map (λ k. entries_of k entries) (range_with_len 0 clients) = c.as_slice.ensures ∙ c.in_ok-calls.ensures in
-    let many : length calls ≡ clients = ap (λ (l : List (List Entry)). length l) is ∙ length-map-range_with_len (λ k. entries_of k entries) 0 clients in
-    (
+    let many : length calls ≡ clients = ap (λ (l : List (List Entry)). length l) is ∙ length-map-range_with_len (λ k. entries_of k entries) 0 clients in (
       (λ yes. record {
         as_many = omega arith;
         clients = c.if-not-are_of_clients.ensures.0 refl;
@@ -26,9 +25,9 @@ returns c =
       }),
       (λ sent.
           c.in_ok-sent.ensures.1 (λ replica low client less.
-              let known : client < clients = omega arith in
-              sent.requests replica client (let as_many = sent.as_many in omega arith) known
-              ∙ sym (ap (λ (es : List Entry). flat_map (sent_to replica) es) (calls_are clients entries calls is client known)))),
+          let known : client < clients = omega arith in
+          sent.requests replica client (let as_many = sent.as_many in omega arith) known
+          ∙ sym (ap (λ (es : List Entry). flat_map (sent_to replica) es) (calls_are clients entries calls is client known)))),
     )
 
 pub are_all_sent-requires-clause-clients : goal.are_all_sent-requires-clause-clients

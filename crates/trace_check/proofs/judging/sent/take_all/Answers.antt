@@ -20,4 +20,4 @@ returns-then-not-take_next c =
     let less : n < length js = omega arith in
     let j : JournalEntry = slice_index_or js n no_entry in
     first_fails js n j less (get_or_default js n j no_entry less) c.args.replica c.args.calls.now c.args.due.now c.loop-line.due c.loop-line.invariant
-        c.take_next.new.due c.take_next.new.due (c.requires.clients n no_entry less) c.if-not-take_next.ensures
+    c.take_next.new.due c.take_next.new.due (c.requires.clients n no_entry less) c.if-not-take_next.ensures

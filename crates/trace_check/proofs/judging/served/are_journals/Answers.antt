@@ -12,8 +12,7 @@ returns-then-not-branch c =
     let journals = c.args.journals.now in
     let r = c.loop-replica.replica in
     let less : r < length journals = omega arith in
-    let same : c.as_slice.result.now ≡ journal_of journals r = c.as_slice.ensures ∙ get_or_read journals r c.index-journals-replica.result less c.index-journals-replica.is [] in
-    (
+    let same : c.as_slice.result.now ≡ journal_of journals r = c.as_slice.ensures ∙ get_or_read journals r c.index-journals-replica.result less c.index-journals-replica.is [] in (
       (λ no. absurd (cc no)),
       (λ all.
           let yes : c.in_ok-is_journal.field-0 ≡ true = c.in_ok-is_journal.ensures.1 (subst (λ (l : List JournalEntry). IsJournal r l) (sym same) (all r)) in
@@ -35,8 +34,7 @@ loop-replica-preserved c =
 
 pub returns : goal.returns
 returns c =
-    let journals = c.args.journals.now in
-    (
+    let journals = c.args.journals.now in (
       (λ yes replica. elim (cases_lt replica (length journals)) [
         | inl low ↦ c.loop-replica.invariant replica (omega arith)
         | inr past ↦ subst (λ (l : List JournalEntry). IsJournal replica l) (sym (get_or_past journals replica [] past)) (empty_journal replica)

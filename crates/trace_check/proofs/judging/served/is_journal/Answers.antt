@@ -16,8 +16,7 @@ returns-then-not-may_follow c =
     let less : k < length js = omega arith in
     let j : JournalEntry = slice_index_or js k no_entry in
     let i = c.loop-entry.invariant in
-    let answered : as_pair c.answer-pair.result ≡ answer_to (take k js) j.request j.request.ask = c.answer-pair.ensures (take k js) (sym (c.held_of.ensures ∙ i.holds j.request.key)) in
-    (
+    let answered : as_pair c.answer-pair.result ≡ answer_to (take k js) j.request j.request.ask = c.answer-pair.ensures (take k js) (sym (c.held_of.ensures ∙ i.holds j.request.key)) in (
       (λ no. absurd (cc no)),
       (λ whole.
           c.if-not-may_follow.ensures.1

@@ -16,8 +16,7 @@ returns-then-has_reply c =
     let ts = c.args.taken.now in
     let n = c.loop-place.place in
     let less : n < length ts = omega arith in
-    let t : Took = slice_index_or ts n no_took in
-    (
+    let t : Took = slice_index_or ts n no_took in (
       (λ no. absurd (cc no)),
       (λ once. absurd (not_apart ts n t less (get_or_default ts n t no_took less) (sym c.if-has_reply.ensures) once)),
     )
@@ -33,8 +32,7 @@ loop-place-preserved c =
 pub returns : goal.returns
 returns c =
     let ts = c.args.taken.now in
-    let all : take c.loop-place.place ts ≡ ts = take_all c.loop-place.place ts (omega arith) in
-    (
+    let all : take c.loop-place.place ts ≡ ts = take_all c.loop-place.place ts (omega arith) in (
       (λ yes. no_repeats_from_distinct (map (λ t. t.replica) ts) (subst (λ (l : List Took). IsDistinct eqb (map (λ t. t.replica) l)) all c.loop-place.invariant)),
       (λ once. refl),
     )

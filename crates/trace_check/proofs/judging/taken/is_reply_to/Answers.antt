@@ -10,8 +10,7 @@ returns-in-Some c = λ journals by_ticket once.
     let e = c.args.call.now in
     let t = c.args.took.now in
     let j = c.in-Some.entry.now in
-    let found = c.in-Some.ensures journals by_ticket in
-    (
+    let found = c.in-Some.ensures journals by_ticket in (
       (λ yes. reply_found journals e t j (sym found) (c.is_answer.ensures.0 yes)),
       (λ r.
           let same : r.entry ≡ j = same_Some r.entry j (sym (reply_is_found journals e t once r) ∙ sym found) in

@@ -12,8 +12,7 @@ returns-then-not-has_quorum c = λ journals by_ticket once. ((λ no. absurd (cc 
 
 pub returns-then-not-are_replies : goal.returns-then-not-are_replies
 returns-then-not-are_replies c = λ journals by_ticket once.
-    let e = c.args.call.now in
-    (
+    let e = c.args.call.now in (
       (λ no. absurd (cc no)),
       (λ t.
           (c.if-not-are_replies.ensures journals by_ticket once).1
@@ -31,8 +30,7 @@ pub returns : goal.returns
 returns c = λ journals by_ticket once.
     let e = c.args.call.now in
     let all = subst (λ (ts : List Took). All (IsReplyTo journals e) ts) c.taken_by-taken.ensures.taken ((c.if-not-are_replies.ensures journals by_ticket once).0 refl) in
-    let counted = c.if-not-has_quorum.ensures.exact.0 refl in
-    (
+    let counted = c.if-not-has_quorum.ensures.exact.0 refl in (
       (λ yes. record {
         count = counted.0;
         many = counted.1;
