@@ -265,7 +265,7 @@ pub fn demand_trace<R: Threads + Sync + Abort + AllocGlobal>(
     run_row(
         rt,
         &Row {
-            words: &texts,
+            words: texts.as_slice(),
             ..Row::check(options, history, journal, status, line)
         },
     )
