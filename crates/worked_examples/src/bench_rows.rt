@@ -19,12 +19,12 @@ pub const WRITES_JOURNAL: &str = "replica,serve,client,seq,start,key,op,value,st
 0,5,0,2,4,k0,w,v2,4
 ";
 
-pub const WRITES_REPORT: &str = "key k0 operations 2 delta 0 two yes
+const WRITES_REPORT: &str = "key k0 operations 2 delta 0 two yes
 total keys 1 operations 2 skipped 0 duplicate 0 unmatched 0 infinite 0 atomic 1 two 1 worst 0
 ";
 
-// A run of the two writes by other words.
-fn writes<'a>(shows: &'a str, words: &'a str) -> BenchRow<'a> {
+/// A run of the two writes by other words.
+pub fn writes<'a>(shows: &'a str, words: &'a str) -> BenchRow<'a> {
     BenchRow {
         out: WRITES_REPORT,
         history: Some(WRITES_HISTORY),

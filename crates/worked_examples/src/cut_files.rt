@@ -1,9 +1,9 @@
-//! Files that end too early: the history of row 1 and the certificate of a stale read, cut at each of their bytes.
+//! Files that end too early: a history of two lines and the certificate of a stale read, cut at each of their bytes.
 
 use crate::checking::{STALE, STALE_CERT};
 use crate::harness::{Row, run_row};
 use crate::outside::{HISTORY, REPORT};
-use std::alloc::{AllocError, Global};
+use std::alloc::AllocError;
 use std::process::Abort;
 use std::test::Fail;
 use std::thread::Threads;

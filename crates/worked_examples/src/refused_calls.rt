@@ -3,7 +3,7 @@
 ghost use Rattle.std.specs.Prelude.{◌≡◌, ◌≤◌, None, IfOk};
 ghost use Rattle.audit_ports.specs.MemoryShown.{memory_shown};
 
-use crate::bench_rows::{WRITES, WRITES_HISTORY, WRITES_JOURNAL, WRITES_REPORT};
+use crate::bench_rows::{WRITES, WRITES_HISTORY, WRITES_JOURNAL, writes};
 use crate::harness::{
     Answer, Row, demand_answer, demand_files, failing, files_of, run_row, sink_of, words_of,
 };
@@ -226,16 +226,6 @@ fn each_read_of_one_byte_fails_in_its_turn(rt: HostRuntime) -> Result<(), Fail> 
     Ok(())
 }
 
-// A run of the two writes.
-fn recorded<'a>() -> BenchRow<'a> {
-    BenchRow {
-        out: WRITES_REPORT,
-        history: Some(WRITES_HISTORY),
-        journal: Some(WRITES_JOURNAL),
-        ..BenchRow::of("a run of two writes", WRITES)
-    }
-}
-
 // A run, where these calls of a port fail.
 fn run_with_failing<'a>(row: &BenchRow<'a>, port: Port, fails: &'a [u32]) -> BenchRow<'a> {
     match port {
@@ -292,7 +282,7 @@ fn fail_run_in_turn<R: Threads + Wait + Copy + Send + Sync + Abort + AllocGlobal
 
 #[test]
 fn each_call_of_a_run_fails_in_its_turn(rt: HostRuntime) -> Result<(), Fail> {
-    let row = recorded();
+    let row = writes("a run of two writes", WRITES);
     // It creates, writes and finishes two files; it writes and flushes the report; and it says nothing.
     fail_run_in_turn(&rt, &row, Port::Shelf, 7)?;
     fail_run_in_turn(&rt, &row, Port::Output, 3)?;
