@@ -7,14 +7,14 @@ use audit_ports::OpenGate;
 use std::test::Fail;
 
 // One client and one replica take turns, so what is written is the same each time.
-const WRITES: &str = "bench h j --clients 1 --replicas 1 --calls 2 --keys 1 --writes 100";
+pub const WRITES: &str = "bench h j --clients 1 --replicas 1 --calls 2 --keys 1 --writes 100";
 
-const WRITES_HISTORY: &str = "client,op,key,value,start,finish,seq,took
+pub const WRITES_HISTORY: &str = "client,op,key,value,start,finish,seq,took
 0,w,k0,v1,1,3,1,2
 0,w,k0,v2,4,6,2,5
 ";
 
-const WRITES_JOURNAL: &str = "replica,serve,client,seq,start,key,op,value,stamp
+pub const WRITES_JOURNAL: &str = "replica,serve,client,seq,start,key,op,value,stamp
 0,2,0,1,1,k0,w,v1,1
 0,5,0,2,4,k0,w,v2,4
 ";
@@ -23,8 +23,8 @@ const WRITES_REPORT: &str = "key k0 operations 2 delta 0 two yes
 total keys 1 operations 2 skipped 0 duplicate 0 unmatched 0 infinite 0 atomic 1 two 1 worst 0
 ";
 
-// A run of the two writes by other words.
-fn writes<'a>(shows: &'a str, words: &'a str) -> BenchRow<'a> {
+/// A run of the two writes by other words.
+pub fn writes<'a>(shows: &'a str, words: &'a str) -> BenchRow<'a> {
     BenchRow {
         out: WRITES_REPORT,
         history: Some(WRITES_HISTORY),

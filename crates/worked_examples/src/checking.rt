@@ -7,9 +7,10 @@ use std::test::Fail;
 use std::thread::Threads;
 
 // A read three ticks stale, and its certificate line by line.
-const STALE: &[u8] = b"client,op,key,value,start,finish\n0,w,x,a,1,2\n0,w,x,b,3,4\n1,r,x,a,7,9\n";
+pub const STALE: &[u8] =
+    b"client,op,key,value,start,finish\n0,w,x,a,1,2\n0,w,x,b,3,4\n1,r,x,a,7,9\n";
 
-const STALE_CERT: &[&str] = &[
+pub const STALE_CERT: &[&str] = &[
     "stale-cert 1\n",
     "key 1\n",
     "delta 3\n",

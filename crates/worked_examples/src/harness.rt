@@ -129,8 +129,8 @@ pub fn file_of(alloc: Global, name: &[u8], bytes: &[u8]) -> Result<(Bytes, Bytes
     Ok((name, bytes))
 }
 
-// The file `h`, and the file `c` where there is one.
-fn files_of(alloc: Global, row: &Row) -> Result<List<(Bytes, Bytes)>, AllocError>
+/// The file `h`, and the file `c` where there is one.
+pub fn files_of(alloc: Global, row: &Row) -> Result<List<(Bytes, Bytes)>, AllocError>
     ensures { IfOk result HaveDistinctNames }
 {
     let history = file_of(alloc, b"h", row.history)?;

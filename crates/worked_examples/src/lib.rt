@@ -9,6 +9,8 @@ mod certificates;
 #[cfg(test)]
 mod checking;
 #[cfg(test)]
+mod cut_files;
+#[cfg(test)]
 mod gates;
 #[cfg(test)]
 mod generated;
@@ -26,6 +28,8 @@ mod measures;
 mod outside;
 #[cfg(test)]
 mod reading;
+#[cfg(test)]
+mod refused_calls;
 #[cfg(test)]
 mod runs;
 #[cfg(test)]

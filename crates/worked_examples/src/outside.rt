@@ -5,12 +5,12 @@ use crate::gates::CountingGate;
 use crate::harness::{Row, audit_past, run_row, run_shortly, run_table};
 use std::test::Fail;
 
-const HISTORY: &[u8] = b"client,op,key,value,start,finish\n0,w,x,a,1,3\n1,r,x,a,4,6\n";
+pub const HISTORY: &[u8] = b"client,op,key,value,start,finish\n0,w,x,a,1,3\n1,r,x,a,4,6\n";
 
-const REPORT: &str =
+pub const REPORT: &str =
     "key x operations 2 delta 0 two yes\ntotal keys 1 operations 2 skipped 0 duplicate 0 unmatched 0 infinite 0 atomic 1 two 1 worst 0\n";
 
-const CERT: &[u8] = b"stale-cert 1\nkey 1\ndelta 0\norder 0 1 2\ntwo yes\norder 0 1 2\nend\n";
+pub const CERT: &[u8] = b"stale-cert 1\nkey 1\ndelta 0\norder 0 1 2\ntwo yes\norder 0 1 2\nend\n";
 
 // A row with other words.
 fn with_words<'a>(shows: &'a str, words: &'a [&'a str]) -> Row<'a> {
