@@ -1,7 +1,7 @@
 -- The operations that counted still count when more come in.
 use Rattle.std.proofs.Common.{◌≡◌, ◌⊎◌, ℕ, ◌≤◌, Bool, true, false, List, ◌∷◌, ◌++◌, refl, sym, ap, subst, inl, inr, arith}
 use Rattle.std.specs.Prelude.{Contains, ◌==◌, ◌&&◌, ◌||◌, filter}
-use Rattle.std.proofs.lemmas.Bool.{cases_lt, and_parts, eqb-true}
+use Rattle.std.proofs.lemmas.Bool.{cases_lt, and_parts, eqb-true, or_cases}
 use Rattle.std.proofs.lemmas.Map.Keys.{any_passes_from_place}
 use Rattle.std.proofs.lemmas.List.Elements.{Contains-append_left}
 use Rattle.stale_model.specs.declared.Op.{Op}
@@ -22,10 +22,6 @@ use Rattle.live_score.proofs.Parts.{part_order, orders_of_part}
 or_grows : (b x y : Bool) → (x ≡ true → y ≡ true) → (b || x) ≡ true → (b || y) ≡ true
 or_grows true x y grows t = refl
 or_grows false x y grows t = grows t
-
-or_cases : (x y : Bool) → (x || y) ≡ true → (x ≡ true) ⊎ (y ≡ true)
-or_cases true y t = inl refl
-or_cases false y t = inr t
 
 module _ (fed more : List Op) where
   written_more : (value : ℕ) → is_written fed value ≡ true → is_written (fed ++ more) value ≡ true

@@ -2,7 +2,7 @@
 use Rattle.std.proofs.Common.{◌≡◌, ℕ, Bool, true, false, not, cond, List, [], ◌∷◌, refl, sym, ◌∙◌, ap, subst, inl, inr, arith}
 use Rattle.std.specs.Prelude.{Contains, ◌==◌, ◌&&◌, ◌||◌, count_by, filter}
 use Rattle.std.specs.List.Sorted.{IsPermutation}
-use Rattle.std.proofs.lemmas.Bool.{and_from, eq-eqb}
+use Rattle.std.proofs.lemmas.Bool.{and_from, eq-eqb, or_left, or_right}
 use Rattle.std.proofs.lemmas.List.Sums.{sum_by-append}
 use Rattle.std.proofs.lemmas.List.Sorted.{Contains-permutation, IsPermutation-cons, IsPermutation-sym}
 use Rattle.std.proofs.lemmas.Map.Keys.{any_passes_from_place}
@@ -41,21 +41,12 @@ module _ {X : Type 0} (passes : X → Bool) where
       let rest = none_fails xs (λ y c. all y (contains_later x y xs c)) in
       omega (arith, sum_by-append (λ (y : X). cond (not (passes y)) 1 0) (x ∷ []) xs)
 
-or_right : (x y : Bool) → y ≡ true → (x || y) ≡ true
-or_right true y t = refl
-or_right false y t = t
-
-or_middle : (x y z : Bool) → y ≡ true → ((x || y) || z) ≡ true
-or_middle true y z t = refl
-or_middle false true z t = refl
-or_middle false false z t = cc
-
 -- an operation whose value is written counts
 counts_by_write : (fed : List Op) (a w : Op) → IsWriteOf (initial_write ∷ fed) a.value w → counts fed a ≡ true
 counts_by_write fed a w ww = elim (first_or_later initial_write w fed ww.there) [
   | inl e ↦
       let zeroth : a.value ≡ 0 = sym ww.value_is ∙ ap (λ (x : Op). x.value) (sym e) in
-      or_middle (is_write a) (a.value == 0) (is_written fed a.value) (eq-eqb a.value 0 zeroth)
+      or_left (is_write a || (a.value == 0)) (is_written fed a.value) (or_right (is_write a) (a.value == 0) (eq-eqb a.value 0 zeroth))
   | inr c ↦
       let (i, at) = place_of fed w c in
       let test = and_from (is_write w) (w.value == a.value) (ap is_write_kind ww.kind) (eq-eqb w.value a.value ww.value_is) in

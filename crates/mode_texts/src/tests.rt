@@ -248,12 +248,5 @@ fn no_key(rt: HostRuntime) -> Result<(), Fail> {
         skipped: 0,
     };
     let text = "total keys 0 zero 0 worst none\n";
-    demand_texts(
-        &rt,
-        rt.alloc(),
-        &history,
-        text,
-        text,
-        "total lines 0\n",
-    )
+    demand_texts(&rt, rt.alloc(), &history, text, text, "total lines 0\n")
 }
