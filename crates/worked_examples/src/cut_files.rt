@@ -102,9 +102,9 @@ const ONE_WRITE: &str =
 const ONE_SKIPPED: &str =
     "key x operations 1 delta 0 two yes\ntotal keys 1 operations 1 skipped 1 duplicate 0 unmatched 0 infinite 0 atomic 1 two 1 worst 0\n";
 
-// Of the 57 bytes the header takes 33, the write 12 and the read 12, each with its line feed. The column that is cut is
-// the first that isn't there. A record is refused until its fifth comma; with nothing behind that the write is open, and the
-// read is skipped.
+// Of the 57 bytes the header takes 33, the write 12 and the read 12, each with its line feed. The column that is cut
+// is the first that isn't there. A record is refused until its fifth comma; with nothing behind that the write is
+// open, and the read is skipped.
 #[test]
 fn a_history_is_cut_at_each_byte(rt: HostRuntime) -> Result<(), Fail> {
     audit_cuts(
@@ -129,7 +129,8 @@ fn a_history_is_cut_at_each_byte(rt: HostRuntime) -> Result<(), Fail> {
     Ok(())
 }
 
-// The lines take 13, 6, 8, 14, 13, 8, 14 and 4 bytes. The line that is cut is the first that isn't ended by a line feed.
+// The lines take 13, 6, 8, 14, 13, 8, 14 and 4 bytes. The line that is cut is the first that isn't ended by a line
+// feed.
 #[test]
 fn a_certificate_is_cut_at_each_byte(rt: HostRuntime) -> Result<(), Fail> {
     let mut cert = Vec::new(rt.alloc());

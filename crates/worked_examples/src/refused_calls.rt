@@ -47,7 +47,8 @@ fn is_part(part: &[u8], whole: &[u8]) -> bool {
     whole.get(..part.len()) == Some(part)
 }
 
-// Demands the status of a call that failed, its line, where a call of `err` fails a part of that, and a part of the output.
+// Demands the status of a call that failed, its line, where a call of `err` fails a part of that, and a part of the
+// output.
 fn demand_refusal<R: Abort>(rt: &R, refused: Refused, answer: &Answer, out: &str) {
     let Refused { port, call, status } = refused;
     let (found, line) = (answer.status, line_of(status).as_bytes());
@@ -110,8 +111,8 @@ fn with_failing<'a>(row: &Row<'a>, port: Port, fails: &'a [u32]) -> Row<'a> {
     }
 }
 
-// Demands that the history is as it was, and that the certificate is a part of its text, where there is one: there is none after a
-// failed read.
+// Demands that the history is as it was, and that the certificate is a part of its text, where there is one: there is
+// none after a failed read.
 fn demand_part<R: Abort>(rt: &R, refused: Refused, shelf: &MemoryShelf) {
     let Refused { call, status, .. } = refused;
     assert!(rt; shelf.file(b"h") == Some(HISTORY), "call {call}: h");
@@ -121,7 +122,8 @@ fn demand_part<R: Abort>(rt: &R, refused: Refused, shelf: &MemoryShelf) {
     }
 }
 
-// The calls of a port: the statuses of those that are made, where each fails in its turn, and the number of none of them.
+// The calls of a port: the statuses of those that are made, where each fails in its turn, and the number of none of
+// them.
 #[derive(Clone, Copy)]
 struct Calls<'a> {
     port: Port,
@@ -211,7 +213,8 @@ fn a_line_that_is_not_written_changes_no_status(rt: HostRuntime) -> Result<(), F
     Ok(())
 }
 
-// The history has 57 bytes: opened by call 1, read by calls 2 to 58, and its end is call 59. Calls 60 to 62 write the certificate.
+// The history has 57 bytes: opened by call 1, read by calls 2 to 58, and its end is call 59. Calls 60 to 62 write the
+// certificate.
 #[test]
 fn each_read_of_one_byte_fails_in_its_turn(rt: HostRuntime) -> Result<(), Fail> {
     let mut statuses = Vec::new(rt.alloc());
@@ -244,7 +247,8 @@ fn run_with_failing<'a>(row: &BenchRow<'a>, port: Port, fails: &'a [u32]) -> Ben
     }
 }
 
-// Demands that each of the two files is a part of its text, where it is there, and that the first is whole where the second is.
+// Demands that each of the two files is a part of its text, where it is there, and that the first is whole where the
+// second is.
 fn demand_two_parts<R: Abort>(rt: &R, refused: Refused, shelf: &MemoryShelf) {
     let call = refused.call;
     let history = shelf.file(b"h");
