@@ -76,8 +76,8 @@ module _ (settings : Settings) (plan : Plan) (entries : List Entry) where
       → ((client : ℕ) → client < length groups → AreCalls (calls_of plan client) (get_or groups client [])) → ArePlanned settings plan entries
   planned_from_groups groups is all each =
       let own : (client : ℕ) → client < settings.clients → AreCalls (calls_of plan client) (entries_of client entries) = λ client low.
-        let (within, same) = own_calls groups is client low in
-        subst (λ (es : List Entry). AreCalls (calls_of plan client) es) same (each client within) in
+      let (within, same) = own_calls groups is client low in
+      subst (λ (es : List Entry). AreCalls (calls_of plan client) es) same (each client within) in
       record {
         clients = all;
         as_many = λ client low. (own client low).as_many;

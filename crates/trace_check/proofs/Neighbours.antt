@@ -18,19 +18,19 @@ module _ {X : Type 0} (e : X → X → Bool) (R : X → X → Type 0) (holds : (
       → IsTrue r ↔ ((k : ℕ) (a b : X) → slice_get xs k ≡ Some a → slice_get xs (k + 1) ≡ Some b → R a b)
   neighbours_tell xs true answer = (
     λ t k a b ata atb.
-      let step : true ≡ e (get_or xs k a) (get_or xs (k + 1) a) = answer k a (slice_get_within xs (k + 1) b atb) in
-      holds a b (sym (rw (get_or_from_slice_get xs k a a ata, get_or_from_slice_get xs (k + 1) b a atb) at step)),
+        let step : true ≡ e (get_or xs k a) (get_or xs (k + 1) a) = answer k a (slice_get_within xs (k + 1) b atb) in
+        holds a b (sym (rw (get_or_from_slice_get xs k a a ata, get_or_from_slice_get xs (k + 1) b a atb) at step)),
     λ h. refl,
   )
   neighbours_tell xs false answer = (
     λ t. absurd (true≢false (sym t)),
     λ h.
-      let (k, low, fails) = answer in
-      let (a, ata) = something_at xs k (omega arith) in
-      let (b, atb) = something_at xs (k + 1) low in
-      let step : false ≡ e (get_or xs k a) (get_or xs (k + 1) a) = fails a in
-      let step2 : false ≡ e a b = rw (get_or_from_slice_get xs k a a ata, get_or_from_slice_get xs (k + 1) b a atb) at step in
-      absurd (true≢false (sym (passes a b (h k a b ata atb)) ∙ sym step2)),
+        let (k, low, fails) = answer in
+        let (a, ata) = something_at xs k (omega arith) in
+        let (b, atb) = something_at xs (k + 1) low in
+        let step : false ≡ e (get_or xs k a) (get_or xs (k + 1) a) = fails a in
+        let step2 : false ≡ e a b = rw (get_or_from_slice_get xs k a a ata, get_or_from_slice_get xs (k + 1) b a atb) at step in
+        absurd (true≢false (sym (passes a b (h k a b ata atb)) ∙ sym step2)),
   )
 
 module _ {X : Type 0} (f : X → ℕ) where
@@ -58,7 +58,7 @@ module _ (xs sorted : List ℕ) (order : IsPermutation xs sorted) where
   pub once_by_next : ((k a b : ℕ) → slice_get sorted k ≡ Some a → slice_get sorted (k + 1) ≡ Some b → a < b) → IsWithoutRepeats xs
   once_by_next h =
       let rises : IsStrictlyIncreasing sorted = λ k low.
-        h k (get_or sorted k 0) (get_or sorted (k + 1) 0) (slice_get-get_or sorted k 0 (omega arith)) (slice_get-get_or sorted (k + 1) 0 low) in
+      h k (get_or sorted k 0) (get_or sorted (k + 1) 0) (slice_get-get_or sorted k 0 (omega arith)) (slice_get-get_or sorted (k + 1) 0 low) in
       no_repeats_from_distinct xs (IsDistinct-IsPermutation eqb flips sorted xs (IsPermutation-sym xs sorted order) (distinct_from_no_repeats sorted (rising_no_repeats sorted rises)))
 
   -- and rise only there

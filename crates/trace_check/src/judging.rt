@@ -54,7 +54,13 @@ pub fn recorded(alloc: Global, settings: &Settings, trace: &Trace) -> Result<Par
     if !are_planned(settings, &plan, entries, groups.as_slice()) {
         return Ok(Part::Bad { part: 1 });
     }
-    if !are_timed(alloc, settings.clients, entries, groups.as_slice(), journals)? {
+    if !are_timed(
+        alloc,
+        settings.clients,
+        entries,
+        groups.as_slice(),
+        journals,
+    )? {
         return Ok(Part::Bad { part: 2 });
     }
     if !are_taken(alloc, settings, entries, journals)? {

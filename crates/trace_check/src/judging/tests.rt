@@ -51,28 +51,46 @@ fn finds_a_recorded_run(rt: HostRuntime) -> Result<(), Fail> {
 fn finds_each_part_that_fails(rt: HostRuntime) -> Result<(), Fail> {
     // The second call is missing.
     let history = b"client,op,key,value,start,finish,seq,took\n0,w,k0,v1,1,3,1,2\n".as_slice();
-    assert_eq!(rt; part_of(rt.alloc(), 100, history, JOURNAL)?, Part::Bad { part: 1 });
+    assert_eq!(rt;
+        part_of(rt.alloc(), 100, history, JOURNAL)?,
+        Part::Bad { part: 1 }
+    );
     // The second call finishes at the ticket of its request.
     let history =
         b"client,op,key,value,start,finish,seq,took\n0,w,k0,v1,1,3,1,2\n0,w,k0,v2,4,5,2,5\n".as_slice();
-    assert_eq!(rt; part_of(rt.alloc(), 100, history, JOURNAL)?, Part::Bad { part: 2 });
+    assert_eq!(rt;
+        part_of(rt.alloc(), 100, history, JOURNAL)?,
+        Part::Bad { part: 2 }
+    );
     // The second request is missing.
     let journal =
         b"replica,serve,client,seq,start,key,op,value,stamp\n0,2,0,1,1,k0,w,v1,1\n".as_slice();
-    assert_eq!(rt; part_of(rt.alloc(), 100, HISTORY, journal)?, Part::Bad { part: 3 });
+    assert_eq!(rt;
+        part_of(rt.alloc(), 100, HISTORY, journal)?,
+        Part::Bad { part: 3 }
+    );
     // Nothing was written, and the first read returns a value.
     let history =
         b"client,op,key,value,start,finish,seq,took\n0,r,k0,v1,1,3,1,2\n0,r,k0,,4,6,2,5\n".as_slice();
     let journal =
         b"replica,serve,client,seq,start,key,op,value,stamp\n0,2,0,1,1,k0,r,,0\n0,5,0,2,4,k0,r,,0\n".as_slice();
-    assert_eq!(rt; part_of(rt.alloc(), 0, history, journal)?, Part::Bad { part: 4 });
+    assert_eq!(rt;
+        part_of(rt.alloc(), 0, history, journal)?,
+        Part::Bad { part: 4 }
+    );
     // The second write has a stamp before its start.
     let journal =
         b"replica,serve,client,seq,start,key,op,value,stamp\n0,2,0,1,1,k0,w,v1,1\n0,5,0,2,4,k0,w,v2,3\n".as_slice();
-    assert_eq!(rt; part_of(rt.alloc(), 100, HISTORY, journal)?, Part::Bad { part: 5 });
+    assert_eq!(rt;
+        part_of(rt.alloc(), 100, HISTORY, journal)?,
+        Part::Bad { part: 5 }
+    );
     // A request that no call sent.
     let journal =
         b"replica,serve,client,seq,start,key,op,value,stamp\n0,2,0,1,1,k0,w,v1,1\n0,5,0,2,4,k0,w,v2,4\n0,7,0,1,1,k0,r,v2,4\n".as_slice();
-    assert_eq!(rt; part_of(rt.alloc(), 100, HISTORY, journal)?, Part::Bad { part: 6 });
+    assert_eq!(rt;
+        part_of(rt.alloc(), 100, HISTORY, journal)?,
+        Part::Bad { part: 6 }
+    );
     Ok(())
 }

@@ -19,7 +19,7 @@ returns-then-not-branch-3 c =
     let same : c.as_slice-journals.result.now ≡ trace.journals = search rules in
     let no : c.in_ok-are_journals.field-0 ≡ false = search rules in
     let fails : ((replica : ℕ) → IsJournal replica (journal_of trace.journals replica)) → ⊥ = λ h.
-        both_ways c.in_ok-are_journals.field-0 no (c.in_ok-are_journals.ensures.1 (subst (λ (js : List (List JournalEntry)). (replica : ℕ) → IsJournal replica (journal_of js replica)) (sym same) h)) in
+    both_ways c.in_ok-are_journals.field-0 no (c.in_ok-are_journals.ensures.1 (subst (λ (js : List (List JournalEntry)). (replica : ℕ) → IsJournal replica (journal_of js replica)) (sym same) h)) in
     fifth_fails settings (plan_for settings) trace planned timed taken freshest fails
 
 pub returns-then-not-branch-4 : goal.returns-then-not-branch-4
@@ -33,7 +33,7 @@ returns-then-not-branch-4 c =
     let same : c.as_slice-journals.result.now ≡ trace.journals = search rules in
     let yes : c.in_ok-are_journals.field-0 ≡ true = search rules in
     let served : (replica : ℕ) → IsJournal replica (journal_of trace.journals replica) =
-        subst (λ (js : List (List JournalEntry)). (replica : ℕ) → IsJournal replica (journal_of js replica)) same (c.in_ok-are_journals.ensures.0 yes) in
+    subst (λ (js : List (List JournalEntry)). (replica : ℕ) → IsJournal replica (journal_of js replica)) same (c.in_ok-are_journals.ensures.0 yes) in
     let fails : AreSent settings trace.entries trace.journals → ⊥ = search rules in
     sixth_fails settings (plan_for settings) trace planned timed taken freshest served fails
 
@@ -48,6 +48,6 @@ returns c =
     let same : c.as_slice-journals.result.now ≡ trace.journals = search rules in
     let yes : c.in_ok-are_journals.field-0 ≡ true = search rules in
     let served : (replica : ℕ) → IsJournal replica (journal_of trace.journals replica) =
-        subst (λ (js : List (List JournalEntry)). (replica : ℕ) → IsJournal replica (journal_of js replica)) same (c.in_ok-are_journals.ensures.0 yes) in
+    subst (λ (js : List (List JournalEntry)). (replica : ℕ) → IsJournal replica (journal_of js replica)) same (c.in_ok-are_journals.ensures.0 yes) in
     let sent : AreSent settings trace.entries trace.journals = search rules in
     record { planned = planned; timed = timed; taken = taken; freshest = freshest; served = served; sent = sent }

@@ -11,8 +11,7 @@ returns-then-are_of_clients c =
     let plan = c.args.plan.now in
     let entries = c.args.entries.now in
     let groups = c.args.groups.now in
-    let all = c.are_of_clients.ensures.0 c.if-are_of_clients.true in
-    (
+    let all = c.are_of_clients.ensures.0 c.if-are_of_clients.true in (
       λ t. planned_from_groups settings plan entries groups c.requires.groups all (c.are_calls_of_each.ensures.0 t),
       λ h. c.are_calls_of_each.ensures.1 (groups_from_planned settings plan entries groups c.requires.groups h),
     )

@@ -13,6 +13,6 @@ returns c =
     let order : IsPermutation c.args.tickets.items sorted = subst (λ (ns : List ℕ). IsPermutation c.args.tickets.items ns) same c.sort_unstable.ensures.permutation in
     let up : IsSorted nat_cmp sorted = subst (λ (ns : List ℕ). IsSorted nat_cmp ns) same c.sort_unstable.ensures.sorted in
     let answer : IsAllAdjacentAnswer (λ x y b. b ≡ ltb x y) sorted c.is_sorted_by.result =
-        c.is_sorted_by.ensures.cases ltb (always_returns_same _ _ _ (λ a r f k. search rules)) in
+    c.is_sorted_by.ensures.cases ltb (always_returns_same _ _ _ (λ a r f k. search rules)) in
     let tells = neighbours_tell ltb (λ x y. x < y) ltb-true lt-ltb sorted c.is_sorted_by.result answer in
     (λ t. once_by_next c.args.tickets.items sorted order (tells.0 t), λ h. tells.1 (next_by_once c.args.tickets.items sorted order up h))

@@ -9,6 +9,6 @@ pub returns : goal.returns
 returns c =
     let rises : Entry → Entry → Bool = λ x y. ltb x.start y.start in
     let answer : IsAllAdjacentAnswer (λ x y b. b ≡ rises x y) c.args.entries.now c.is_sorted_by.result =
-        c.is_sorted_by.ensures.cases rises (always_returns_same _ _ _ (λ a r f k. search rules)) in
+    c.is_sorted_by.ensures.cases rises (always_returns_same _ _ _ (λ a r f k. search rules)) in
     let tells = neighbours_tell rises (λ x y. x.start < y.start) (λ x y. ltb-true x.start y.start) (λ x y. lt-ltb x.start y.start) c.args.entries.now c.is_sorted_by.result answer in
     (λ t. rises_by_next (λ (x : Entry). x.start) c.args.entries.now (tells.0 t), λ h. tells.1 (next_by_rises (λ (x : Entry). x.start) c.args.entries.now h))

@@ -11,8 +11,7 @@ returns-then-are_in_order c =
     let groups = c.args.groups.now in
     let journals = c.args.journals.now in
     let order = c.are_in_order.ensures.0 c.if-are_in_order.true in
-    let once = λ (ns : List ℕ). IsWithoutRepeats ns in
-    (
+    let once = λ (ns : List ℕ). IsWithoutRepeats ns in (
       λ t. timed_from_order clients entries journals groups c.requires.groups c.requires.clients order (subst once c.in_ok-tickets.ensures (c.are_distinct.ensures.0 t)),
       λ h. c.are_distinct.ensures.1 (subst once (sym c.in_ok-tickets.ensures) h.once),
     )
