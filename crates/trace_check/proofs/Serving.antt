@@ -1,6 +1,5 @@
 -- A journal with one more entry, which may follow those before it.
 use Rattle.std.proofs.Common.{◌≡◌, ℕ, ◌<◌, ◌≤◌, List, [], ◌∷◌, ◌++◌, sym, ◌∙◌, ap, arith}
-use Rattle.std.specs.Prelude.{All}
 use Rattle.std.proofs.lemmas.List.Elements.{All-push, All-contains, Contains-push}
 use Rattle.stale_model.specs.declared.store.Ask.TheVariants.{Read}
 use Rattle.stale_model.specs.declared.store.JournalEntry.{JournalEntry}
