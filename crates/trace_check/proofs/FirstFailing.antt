@@ -1,12 +1,12 @@
 -- Which part is the first that fails.
-use Rattle.std.proofs.Common.{◌≡◌, ℕ, refl, arith}
+use Rattle.std.proofs.Common.{ℕ, refl, arith}
 use Rattle.std.specs.Prelude.{All}
 use Rattle.stale_model.specs.declared.store.Settings.{Settings}
 use Rattle.stale_model.specs.declared.store.Plan.{Plan}
 use Rattle.stale_model.specs.Journals.{IsJournal}
 use Rattle.stale_model.specs.RecordedRuns.{journal_of, ArePlanned, AreTimed, AreTaken, ReadsFreshest, AreSent}
 use Rattle.trace_check.specs.declared.trace.Trace.{Trace}
-use Rattle.trace_check.specs.Parts.{PartHolds, IsFirstFailing}
+use Rattle.trace_check.specs.Parts.{IsFirstFailing}
 
 module _ (settings : Settings) (plan : Plan) (trace : Trace) where
   pub first_fails : (ArePlanned settings plan trace.entries → ⊥) → IsFirstFailing settings plan trace 1

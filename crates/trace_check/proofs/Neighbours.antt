@@ -1,5 +1,5 @@
 -- Lists whose neighbours pass a test, and numbers without repeats.
-use Rattle.std.proofs.Common.{◌≡◌, ◌⊎◌, ℕ, ◌+◌, ◌<◌, ◌↔◌, Bool, true, false, List, length, get_or, map, refl, sym, ◌∙◌, ap, inl, inr, arith, eqb, true≢false}
+use Rattle.std.proofs.Common.{◌≡◌, ℕ, ◌+◌, ◌<◌, ◌↔◌, Bool, true, false, List, length, get_or, map, refl, sym, ◌∙◌, arith, eqb, true≢false}
 use Rattle.std.specs.Prelude.{Some, slice_get, IsTrue}
 use Rattle.std.specs.List.{IsAllAdjacentAnswer}
 use Rattle.std.specs.List.Sorted.{IsPermutation, IsSorted, IsStrictlyIncreasing}

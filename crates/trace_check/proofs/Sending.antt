@@ -1,10 +1,10 @@
 -- What clients have yet to send to a replica, and what its journal has of them.
-use Rattle.std.proofs.Common.{◌≡◌, ℕ, ◌+◌, ◌<◌, cond, List, [], ◌∷◌, ◌++◌, length, get_or, map, take, drop, replicate, refl, sym, ◌∙◌, ap, inl, inr, subst, arith, append_assoc, eq-eqb, get_or-set_same, get_or-set_other, take-append-drop}
-use Rattle.std.specs.Prelude.{◌==◌, filter, flat_map, true, false, slice_set}
+use Rattle.std.proofs.Common.{◌≡◌, ℕ, ◌+◌, ◌<◌, List, [], ◌∷◌, ◌++◌, length, get_or, map, take, drop, replicate, refl, sym, ◌∙◌, ap, inl, inr, subst, arith, append_assoc, eq-eqb, get_or-set_same, get_or-set_other, take-append-drop}
+use Rattle.std.specs.Prelude.{◌==◌, flat_map, true, false, slice_set}
 use Rattle.std.specs.List.{range_with_len}
 use Rattle.std.proofs.lemmas.Bool.{cases_eq, ne_eqb}
 use Rattle.std.proofs.lemmas.List.{map-append, append-nil, append_cancel_left, drop_more, get_or-replicate, take_more}
-use Rattle.std.proofs.lemmas.List.Elements.{filter-append, filter_more}
+use Rattle.std.proofs.lemmas.List.Elements.{filter-append}
 use Rattle.std.proofs.lemmas.List.FromFn.{get_or-map-range_with_len}
 use Rattle.stale_model.specs.declared.store.Request.{Request}
 use Rattle.stale_model.specs.declared.store.JournalEntry.{JournalEntry}

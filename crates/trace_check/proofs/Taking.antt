@@ -5,7 +5,7 @@ use Rattle.std.specs.Cmp.{nat_eq_equiv}
 use Rattle.std.proofs.lemmas.Map.Keys.{IsDistinct-push}
 use Rattle.std.proofs.lemmas.List.{map_more, length-take, get_or-take}
 use Rattle.std.proofs.lemmas.List.Folds.{Any-from_list_any}
-use Rattle.std.specs.Prelude.{◌==◌, Contains, Some, None, find, flat_map, slice_get}
+use Rattle.std.specs.Prelude.{◌==◌, Contains, Some, find, flat_map}
 use Rattle.std.proofs.lemmas.Bool.{both_ways, eqb-true}
 use Rattle.std.proofs.lemmas.Option.{same_Some, slice_get-get_or}
 use Rattle.stale_model.specs.declared.store.JournalEntry.{JournalEntry}

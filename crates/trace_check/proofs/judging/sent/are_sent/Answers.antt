@@ -5,7 +5,6 @@ use Rattle.std.proofs.lemmas.List.FromFn.{length-map-range_with_len}
 use Rattle.stale_model.specs.declared.store.Entry.{Entry}
 use Rattle.stale_model.specs.Calls.{sent_to}
 use Rattle.stale_model.specs.RecordedRuns.{entries_of}
-use Rattle.trace_check.specs.SendingSteps.{calls_in}
 use Rattle.trace_check.proofs.Sending.{calls_are}
 use Rattle.trace_check.proofs.judging.sent.are_sent.Goals as goal
 

@@ -1,4 +1,4 @@
-use Rattle.std.proofs.Common.{◌≡◌, ◌<◌, true, false, List, length, eqb, map, take, refl, sym, ◌∙◌, subst, slice_index_or, arith}
+use Rattle.std.proofs.Common.{◌≡◌, ◌<◌, List, length, eqb, map, take, refl, sym, subst, slice_index_or, arith}
 use Rattle.std.specs.List.{IsDistinct}
 use Rattle.std.proofs.lemmas.List.{take_all, get_or_default}
 use Rattle.stale_model.specs.declared.store.Took.{Took}
