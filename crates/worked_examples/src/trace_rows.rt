@@ -183,6 +183,9 @@ fn files_are_read_before_their_lines(rt: HostRuntime) -> Result<(), Fail> {
     Ok(())
 }
 
+// The bytes that a line of the two files may hold, and some that none does.
+const BYTES: &[u8] = b"0123456789,;\nkvrwp\r x\"\x00\xff";
+
 // The text with another byte at this place.
 fn with_byte(alloc: Global, text: &[u8], place: usize, byte: u8) -> Result<Vec<u8>, AllocError> {
     let mut changed = Vec::from_slice(alloc, text)?;
@@ -221,9 +224,9 @@ fn a_change_of_one_byte_of_the_history_is_found(rt: HostRuntime) -> Result<(), F
     // The last call may finish at any ticket behind its reply: here at 7, 8 or 9 as well.
     let last_finish = HISTORY.len() - b"6,2,5\n".len();
     for place in 0..HISTORY.len() {
-        for byte in 0..=255u8 {
-            let changed = with_byte(rt.alloc(), HISTORY, place, byte)?;
-            let later = place == last_finish && matches!(byte, b'7'..=b'9');
+        for byte in BYTES {
+            let changed = with_byte(rt.alloc(), HISTORY, place, *byte)?;
+            let later = place == last_finish && matches!(*byte, b'7'..=b'9');
             let same = changed.as_slice() == HISTORY;
             let good = is_good(&rt, (&changed, JOURNAL))?;
             assert!(rt; good == (same || later), "byte {byte} at {place}");
@@ -235,8 +238,8 @@ fn a_change_of_one_byte_of_the_history_is_found(rt: HostRuntime) -> Result<(), F
 #[test]
 fn a_change_of_one_byte_of_the_journal_is_found(rt: HostRuntime) -> Result<(), Fail> {
     for place in 0..JOURNAL.len() {
-        for byte in 0..=255u8 {
-            let changed = with_byte(rt.alloc(), JOURNAL, place, byte)?;
+        for byte in BYTES {
+            let changed = with_byte(rt.alloc(), JOURNAL, place, *byte)?;
             let same = changed.as_slice() == JOURNAL;
             let good = is_good(&rt, (HISTORY, &changed))?;
             assert!(rt; good == same, "byte {byte} at {place}");
