@@ -254,10 +254,18 @@ module _ (words : List (List ℕ)) (task : Task) (named : task_of words ≡ Some
   performed_untold t none status.OutOfMemory p = absurd p
   performed_untold t none status.TraceRefused p = absurd p
 
+  -- a task with no history judges none
+  unjudged : (t : Task) → history_file t ≡ None → judged_file t ≡ None
+  unjudged (Judge file measure) none = cc
+  unjudged (Check file cert) none = cc
+  unjudged (Gen workload) none = refl
+  unjudged (Trial workload workers) none = refl
+  unjudged (TraceTask history journal settings) none = refl
+
   -- of a task with no history, nothing but a failed write and a want of memory is refused
   refused_untold : history_file task ≡ None → (r : Refusal) (answer : Status) → IsRefused task s n o o' r → Answers r answer e e'
       → (Rose o.faults o'.faults → ⊥) → number answer ≡ number status.OutOfMemory
-  refused_untold none (refusal.History fault) answer h says fine = absurd (some_is_none (sym h.shows.file_is ∙ none))
+  refused_untold none (refusal.History fault) answer h says fine = absurd (some_is_none (sym h.shows.file_is ∙ unjudged task none))
   refused_untold none (refusal.Cert fault) answer h says fine = absurd (some_is_none (sym (ap history_file h.shows.task_is) ∙ none))
   refused_untold none (refusal.Trace fault) answer h says fine = absurd (some_is_none (sym (ap history_file h.shows.task_is) ∙ none))
   refused_untold none (refusal.Missing line) answer h says fine = absurd (no_input task s h.shows.input none h.shows.input_is)

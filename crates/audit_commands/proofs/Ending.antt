@@ -1,5 +1,5 @@
--- What a refusal ends with.
-use Rattle.std.proofs.Common.{◌≡◌, ℕ, List, Some, ◌∙◌, ap, inl, inr}
+-- What a task that was performed, and what a refusal ends with.
+use Rattle.std.proofs.Common.{◌≡◌, ℕ, List, Some, refl, ◌∙◌, ap, inl, inr}
 use Rattle.audit_ports.specs.Shelf.{Shown}
 use Rattle.audit_ports.specs.Sink.{SinkShown}
 use Rattle.audit_words.specs.declared.Task.{Task}
@@ -7,11 +7,27 @@ use Rattle.audit_words.specs.Tasks.{task_of}
 use Rattle.audit_commands.specs.declared.refusal.Refusal.{Refusal}
 use Rattle.audit_commands.specs.declared.refusal.Refusal.TheVariants as refusal
 use Rattle.audit_commands.specs.declared.status.Status.{Status}
+use Rattle.audit_commands.specs.declared.status.Status.TheVariants as status
 use Rattle.audit_commands.specs.Refusals.{IsRefused, Answers}
+use Rattle.audit_commands.specs.Steps.{Performs}
 use Rattle.audit_commands.specs.Ends.{outside, Ends}
 use Rattle.command_outputs.proofs.WritingFiles.{counts_kept}
 
 module _ (words : List (List ℕ)) (task : Task) (asked : task_of words ≡ Some task) (s s' : Shown) (o o' e e' : SinkShown) where
+  -- what was performed ends as its status means
+  pub performed : (answer : Status) → Performs task s s' o o' answer → Ends words (outside s o e) (outside s' o' e) answer
+  performed status.Done p = record { task = task; asked = asked; done = p; err = refl }
+  performed status.NotShown p = record { task = task; asked = asked; fails = p; err = refl }
+  performed status.WordsRefused p = absurd p
+  performed status.HistoryRefused p = absurd p
+  performed status.CertRefused p = absurd p
+  performed status.Missing p = absurd p
+  performed status.ReadFailed p = absurd p
+  performed status.WriteFailed p = absurd p
+  performed status.TooLong p = absurd p
+  performed status.OutOfMemory p = absurd p
+  performed status.TraceRefused p = absurd p
+
   -- a refusal ends as its status means
   pub refused : (r : Refusal) (answer : Status) → IsRefused task s s' o o' r → Answers r answer e e' → Ends words (outside s o e) (outside s' o' e') answer
   refused (refusal.History fault) answer h (inl (line, is, says)) =

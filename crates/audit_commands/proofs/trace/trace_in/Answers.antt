@@ -1,7 +1,6 @@
 use Rattle.std.proofs.Common.{◌≡◌, Err, refl, rules}
 use Rattle.audit_words.specs.declared.Task.TheVariants.{Trace as TraceTask}
 use Rattle.audit_commands.proofs.Refusing.{first_shows, journal_shows}
-use Rattle.audit_commands.proofs.Tracing.{trace_read_ok, trace_read_err}
 use Rattle.audit_commands.proofs.trace.trace_in.Goals as goal
 
 pub returns-in_err-calls-clause-err : goal.returns-in_err-calls-clause-err
