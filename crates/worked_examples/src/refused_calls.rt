@@ -33,6 +33,22 @@ struct Refused {
     status: u8,
 }
 
+// The numbers of calls that may fail, each at the place of its own.
+const NUMBERS: &[u32] = &[
+    0, 1, 2, 3, 4, 5, 6, 7, 8, 9, 10, 11, 12, 13, 14, 15, 16, 17, 18, 19, 20, 21, 22, 23, 24, 25,
+    26, 27, 28, 29, 30, 31, 32, 33, 34, 35, 36, 37, 38, 39, 40, 41, 42, 43, 44, 45, 46, 47, 48, 49,
+    50, 51, 52, 53, 54, 55, 56, 57, 58, 59, 60, 61, 62, 63,
+];
+
+// The call of this number alone.
+fn alone(call: u32) -> &'static [u32] {
+    let place = call as usize;
+    match NUMBERS.get(place..place + 1) {
+        Some(one) => one,
+        None => &[],
+    }
+}
+
 // The line of a status that a failing call gives.
 fn line_of(status: u8) -> &'static str {
     match status {
@@ -146,12 +162,12 @@ fn fail_in_turn<R: Threads + Sync + Abort + AllocGlobal>(
         next,
     } = calls;
     for (call, &status) in (1..u32::MAX).zip(statuses) {
-        let (answer, shelf) = answer_to(rt, &with_failing(row, port, &[call]), cut)?;
+        let (answer, shelf) = answer_to(rt, &with_failing(&*row, port, alone(call)), cut)?;
         let refused = Refused { port, call, status };
         demand_refusal(rt, refused, &answer, row.out);
         demand_part(rt, refused, &shelf);
     }
-    let (answer, shelf) = answer_to(rt, &with_failing(row, port, &[next]), cut)?;
+    let (answer, shelf) = answer_to(rt, &with_failing(&*row, port, alone(next)), cut)?;
     demand_answer(rt, row.shows, &answer, (row.status, row.out, row.err));
     demand_files(rt, row, &shelf);
     Ok(())
@@ -272,7 +288,7 @@ fn fail_run_in_turn<R: Threads + Wait + Copy + Send + Sync + Abort + AllocGlobal
     next: u32,
 ) -> Result<(), AllocError> {
     for number in 1..next {
-        let (answer, shelf) = call(rt, &run_with_failing(row, port, &[number]), &OpenGate)?;
+        let (answer, shelf) = call(rt, &run_with_failing(&*row, port, alone(number)), &OpenGate)?;
         let refused = Refused {
             port,
             call: number,
@@ -281,7 +297,7 @@ fn fail_run_in_turn<R: Threads + Wait + Copy + Send + Sync + Abort + AllocGlobal
         demand_refusal(rt, refused, &answer, row.out);
         demand_two_parts(rt, refused, &shelf);
     }
-    run_past(rt, &run_with_failing(row, port, &[next]), &OpenGate)
+    run_past(rt, &run_with_failing(&*row, port, alone(next)), &OpenGate)
 }
 
 #[test]
