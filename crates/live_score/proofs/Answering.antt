@@ -12,12 +12,11 @@ use Rattle.live_score.specs.Answers.{answer_of}
 use Rattle.live_score.specs.Feeding.{IsFedAs, fed_after}
 use Rattle.live_score.specs.Rows.{IsWriteKept}
 use Rattle.live_score.proofs.Counting.{counts_written, counts_unwritten}
-use Rattle.live_score.proofs.RowsGrow.{kinds_differ}
 
 answered_by : (fed : List Op) (op : Op) (kind : Kind) (kept : Option ℕ) (start : ℕ) → op.kind ≡ kind → IsWriteKept (initial_write ∷ fed) op.value start kept → IsFedAs fed op (answer_of kind kept)
 answered_by fed op Read None start kind h = record { kind = kind; unwritten = counts_unwritten fed op kind h }
-answered_by fed op Read (Some rec) start kind h = (λ r s. kinds_differ kind s.kind, λ e. both_ways (counts fed op) e.unwritten (counts_written fed op h.0 h.1))
-answered_by fed op Write None start kind h = (λ r s. h s.first.0 s.first.1, λ e. kinds_differ e.kind kind)
+answered_by fed op Read (Some rec) start kind h = (λ r s. (let writes = s.kind in cc), λ e. both_ways (counts fed op) e.unwritten (counts_written fed op h.0 h.1))
+answered_by fed op Write None start kind h = (λ r s. h s.first.0 s.first.1, λ e. (let reads = e.kind in cc))
 answered_by fed op Write (Some rec) start kind h = record { kind = kind; first = (h.0, h.1, h.2) }
 
 -- the answer is as said

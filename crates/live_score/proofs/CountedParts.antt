@@ -1,5 +1,5 @@
 -- The operations that counted still count when more come in.
-use Rattle.std.proofs.Common.{◌≡◌, ◌⊎◌, ℕ, ◌≤◌, Bool, true, false, List, ◌∷◌, ◌++◌, refl, sym, ap, subst, inl, inr, arith}
+use Rattle.std.proofs.Common.{◌≡◌, ℕ, ◌≤◌, Bool, true, false, List, ◌∷◌, ◌++◌, refl, sym, ap, subst, inl, inr, arith}
 use Rattle.std.specs.Prelude.{Contains, ◌==◌, ◌&&◌, ◌||◌, filter}
 use Rattle.std.proofs.lemmas.Bool.{cases_lt, and_parts, eqb-true, or_cases}
 use Rattle.std.proofs.lemmas.Map.Keys.{any_passes_from_place}
@@ -17,6 +17,7 @@ use Rattle.stale_model.proofs.Sorted.{first_or_later, contains_later}
 use Rattle.stale_model.proofs.Members.{contains_first, kept_is_there, kept_passes, kept_from}
 use Rattle.model_laws.proofs.Tests.{some_passes}
 use Rattle.live_score.specs.Laws.{ScoresNeverFall, NoScoreComesBack, ReadsAfterTheirWritesAreNotEarly}
+use Rattle.live_score.proofs.Counting.{counted_is_fed, starts_by_finish}
 use Rattle.live_score.proofs.Parts.{part_order, orders_of_part}
 
 or_grows : (b x y : Bool) → (x ≡ true → y ≡ true) → (b || x) ≡ true → (b || y) ≡ true
@@ -39,13 +40,6 @@ module _ (fed more : List Op) where
         let test = or_grows (is_write a || (a.value == 0)) (is_written fed a.value) (is_written (fed ++ more) a.value) (written_more a.value) (kept_passes (counts fed) fed a d) in
         contains_later initial_write a (filter (counts (fed ++ more)) (fed ++ more)) (kept_from (counts (fed ++ more)) (fed ++ more) a there test)
   ]
-
--- what counts was fed, or is the initial write
-pub counted_is_fed : (fed : List Op) (a : Op) → Contains (counted fed) a → Contains (initial_write ∷ fed) a
-counted_is_fed fed a c = elim (first_or_later initial_write a (filter (counts fed) fed) c) [
-  | inl e ↦ subst (λ (x : Op). Contains (initial_write ∷ fed) x) e (contains_first initial_write fed)
-  | inr d ↦ contains_later initial_write a fed (kept_is_there (counts fed) fed a d)
-]
 
 -- a fed write counts
 write_counts : (fed : List Op) (w : Op) → Contains fed w → is_write w ≡ true → Contains (counted fed) w
@@ -105,14 +99,6 @@ scores_never_fall fed more d e differ before after = elim (cases_lt e d) [
 pub no_score_comes_back : NoScoreComesBack
 no_score_comes_back fed more differ none d order o = none d (part_order (counted (fed ++ more)) (counted fed) (counted_more fed more) order) (order_before fed more d order differ o)
 
--- a valid operation starts no later than it finishes
-starts_first : (values : ℕ) (a : Op) → IsValidOp values a → earliest_start a ≤ latest_finish a
-starts_first values a v =
-    let n = v.numbered in
-    let s = v.starts in
-    let o = v.ordered in
-    grind arith
-
 pub reads_after_their_writes_are_not_early : ReadsAfterTheirWritesAreNotEarly
 reads_after_their_writes_are_not_early live w r valid can k ww early = elim (first_or_later initial_write w live.fed ww.there) [
   | inl e ↦ absurd (let z : earliest_start w ≡ 0 = ap (λ (x : Op). earliest_start x) (sym e) in omega arith)
@@ -120,6 +106,6 @@ reads_after_their_writes_are_not_early live w r valid can k ww early = elim (fir
       let (i, l, e) = c in
       let v = subst (λ (x : Op). IsValidOp live.values x) e (valid i w l) in
       let last = subst (λ (x : Op). latest_finish x ≤ latest_finish r) e (can.last i w l) in
-      let starts = starts_first live.values w v in
+      let starts = starts_by_finish live.values w v in
       omega arith
 ]

@@ -1,19 +1,20 @@
 -- Which operations count, and how many reads wait, after one more.
-use Rattle.std.proofs.Common.{◌≡◌, ◌≢◌, ℕ, ◌+◌, ◌≤◌, ◌==◌, Bool, true, false, cond, not, ◌&&◌, ◌||◌, List, [], ◌∷◌, ◌++◌, Option, Some, None, length, set, refl, sym, ◌∙◌, ap, inl, inr, subst, arith, eq-eqb}
+use Rattle.std.proofs.Common.{◌≡◌, ◌≢◌, ℕ, ◌+◌, ◌-◌, ◌≤◌, ◌==◌, Bool, true, false, cond, max, not, ◌&&◌, ◌||◌, List, [], ◌∷◌, ◌++◌, Option, Some, None, length, set, refl, sym, ◌∙◌, ap, inl, inr, subst, arith, eq-eqb}
 use Rattle.std.specs.Prelude.{Contains}
-use Rattle.std.specs.List.{sum_by}
-use Rattle.std.proofs.lemmas.Bool.{eqb-true, ne_eqb, cases_eq, or_from, or_left, or_right, and_from, and_left, and_parts, false_from_ne_true}
+use Rattle.std.specs.List.{sum_by, filter}
+use Rattle.std.proofs.lemmas.Bool.{cond_both, eqb-true, ne_eqb, cases_eq, or_from, or_left, or_right, and_from, and_left, and_parts, false_from_ne_true}
 use Rattle.std.proofs.lemmas.Option.{none-some, slice_get_within}
 use Rattle.std.proofs.lemmas.List.Folds.{list_any-append, list_any_at, Any-from_list_any}
 use Rattle.std.proofs.lemmas.List.Sums.{sum_by-cons, sum_by_push, count_by-le-length}
 use Rattle.stale_model.specs.declared.Op.{Op}
 use Rattle.stale_model.specs.declared.Kind.{Kind}
 use Rattle.stale_model.specs.declared.Kind.TheVariants.{Read, Write}
-use Rattle.stale_model.specs.Operations.{IsRead, IsWrite, is_write, is_write_kind, initial_write}
+use Rattle.stale_model.specs.Operations.{IsRead, IsWrite, is_write, is_write_kind, initial_write, earliest_start, latest_finish}
+use Rattle.stale_model.specs.Valid.{IsValidOp}
 use Rattle.stale_model.specs.Faults.{IsWriteOf}
 use Rattle.stale_model.specs.Orders.{StandsAt}
-use Rattle.stale_model.specs.Counted.{is_written, counts, waiting}
-use Rattle.stale_model.proofs.Members.{contains_first}
+use Rattle.stale_model.specs.Counted.{is_written, counts, counted, waiting}
+use Rattle.stale_model.proofs.Members.{contains_first, kept_is_there}
 use Rattle.stale_model.proofs.ReadsAndWrites.{kind_is_write}
 use Rattle.stale_model.proofs.Sorted.{first_or_later, contains_later}
 use Rattle.live_score.specs.declared.rows.Row.{Row}
@@ -34,6 +35,20 @@ writer_of fed value t =
     let (k, w, within, e, passes) = Any-from_list_any test fed t in
     let both = and_parts (is_write w) (w.value == value) passes in
     (w, (k, within, e), kind_is_write w.kind both.0, eqb-true w.value value both.1)
+
+-- what counts was fed, or is the initial write
+pub counted_is_fed : (fed : List Op) (a : Op) → Contains (counted fed) a → Contains (initial_write ∷ fed) a
+counted_is_fed fed a c = elim (first_or_later initial_write a (filter (counts fed) fed) c) [
+  | inl same ↦ subst (λ (x : Op). Contains (initial_write ∷ fed) x) same (contains_first initial_write fed)
+  | inr there ↦ contains_later initial_write a fed (kept_is_there (counts fed) fed a there)
+]
+
+-- a valid operation starts no later than it finishes
+pub starts_by_finish : (values : ℕ) (a : Op) → IsValidOp values a → earliest_start a ≤ latest_finish a
+starts_by_finish values a v =
+    let starts = v.starts in
+    let ordered = v.ordered in
+    cond_both (a.rec == 0) 0 (max 1 (a.start - a.slack)) (λ n. n ≤ latest_finish a) (λ _. omega arith) (λ _. omega arith)
 
 -- what has a write counts
 pub counts_written : (fed : List Op) (a w : Op) → IsWriteOf (initial_write ∷ fed) a.value w → counts fed a ≡ true

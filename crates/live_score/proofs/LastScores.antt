@@ -1,24 +1,22 @@
 -- At the end of a key all its operations count.
-use Rattle.std.proofs.Common.{◌≡◌, ℕ, Bool, true, false, not, cond, List, [], ◌∷◌, refl, sym, ◌∙◌, ap, subst, inl, inr, arith}
-use Rattle.std.specs.Prelude.{Contains, ◌==◌, ◌&&◌, ◌||◌, count_by, filter}
+use Rattle.std.proofs.Common.{◌≡◌, ℕ, Bool, true, false, not, cond, List, [], ◌∷◌, refl, sym, ap, subst, arith}
+use Rattle.std.specs.Prelude.{Contains, count_by, filter}
 use Rattle.std.specs.List.Sorted.{IsPermutation}
-use Rattle.std.proofs.lemmas.Bool.{and_from, eq-eqb, or_left, or_right}
 use Rattle.std.proofs.lemmas.List.Sums.{sum_by-append}
 use Rattle.std.proofs.lemmas.List.Sorted.{Contains-permutation, IsPermutation-cons, IsPermutation-sym}
-use Rattle.std.proofs.lemmas.Map.Keys.{any_passes_from_place}
 use Rattle.stale_model.specs.declared.Op.{Op}
 use Rattle.stale_model.specs.declared.KeyOps.{KeyOps}
-use Rattle.stale_model.specs.Operations.{initial_write, operations, is_write, is_write_kind}
+use Rattle.stale_model.specs.Operations.{initial_write, operations}
 use Rattle.stale_model.specs.Valid.{IsValidKey}
-use Rattle.stale_model.specs.Faults.{IsMatchedKey, IsWriteOf}
+use Rattle.stale_model.specs.Faults.{IsMatchedKey}
 use Rattle.stale_model.specs.LeastDelta.{HasNoDelta, IsLeastDelta}
-use Rattle.stale_model.specs.Counted.{is_written, counts, counted}
-use Rattle.stale_model.proofs.Places.{place_of}
-use Rattle.stale_model.proofs.Sorted.{first_or_later, contains_later}
+use Rattle.stale_model.specs.Counted.{counts, counted}
+use Rattle.stale_model.proofs.Sorted.{contains_later}
 use Rattle.stale_model.proofs.Members.{contains_first}
 use Rattle.model_laws.proofs.Named.{matched_keys_name_their_writes}
 use Rattle.model_laws.proofs.Rearranged.{orders_stay_of_rearranged}
 use Rattle.live_score.specs.Laws.{LastScoresAreOfKeys}
+use Rattle.live_score.proofs.Counting.{counts_written}
 
 module _ {X : Type 0} (passes : X → Bool) where
   all_kept_by : (b : Bool) (x : X) (xs ys : List X) → b ≡ true → ys ≡ xs → cond b (x ∷ ys) ys ≡ x ∷ xs
@@ -41,18 +39,6 @@ module _ {X : Type 0} (passes : X → Bool) where
       let rest = none_fails xs (λ y c. all y (contains_later x y xs c)) in
       omega (arith, sum_by-append (λ (y : X). cond (not (passes y)) 1 0) (x ∷ []) xs)
 
--- an operation whose value is written counts
-counts_by_write : (fed : List Op) (a w : Op) → IsWriteOf (initial_write ∷ fed) a.value w → counts fed a ≡ true
-counts_by_write fed a w ww = elim (first_or_later initial_write w fed ww.there) [
-  | inl e ↦
-      let zeroth : a.value ≡ 0 = sym ww.value_is ∙ ap (λ (x : Op). x.value) (sym e) in
-      or_left (is_write a || (a.value == 0)) (is_written fed a.value) (or_right (is_write a) (a.value == 0) (eq-eqb a.value 0 zeroth))
-  | inr c ↦
-      let (i, at) = place_of fed w c in
-      let test = and_from (is_write w) (w.value == a.value) (ap is_write_kind ww.kind) (eq-eqb w.value a.value ww.value_is) in
-      or_right (is_write a || (a.value == 0)) (is_written fed a.value) (any_passes_from_place (λ (x : Op). is_write x && (x.value == a.value)) fed i w at test)
-]
-
 module _ (key : KeyOps) (fed : List Op) (valid : IsValidKey key) (matched : IsMatchedKey (operations key)) (same : IsPermutation key.ops fed) where
   all_same : IsPermutation (operations key) (initial_write ∷ fed)
   all_same = IsPermutation-cons initial_write key.ops fed same
@@ -62,7 +48,7 @@ module _ (key : KeyOps) (fed : List Op) (valid : IsValidKey key) (matched : IsMa
       let names = matched_keys_name_their_writes key valid matched in
       let there = Contains-permutation (initial_write ∷ fed) (operations key) a (IsPermutation-sym (operations key) (initial_write ∷ fed) all_same) (contains_later initial_write a fed c) in
       let (w, ww) = names.written a there in
-      counts_by_write fed a w (record { there = Contains-permutation (operations key) (initial_write ∷ fed) w all_same ww.there; kind = ww.kind; value_is = ww.value_is })
+      counts_written fed a w (record { there = Contains-permutation (operations key) (initial_write ∷ fed) w all_same ww.there; kind = ww.kind; value_is = ww.value_is })
 
   counted_is_all : counted fed ≡ initial_write ∷ fed
   counted_is_all = ap (λ (xs : List Op). initial_write ∷ xs) (all_kept (counts fed) fed all_count)

@@ -15,10 +15,6 @@ use Rattle.live_score.specs.declared.rows.Row.{Row}
 use Rattle.live_score.specs.Rows.{IsWriteKept, IsFinishOf, IsFinishKept, IsStartKept, IsRowOf, AreRows, first_finish, placed_row, row_with, row_after}
 use Rattle.live_score.proofs.Stands.{after_write}
 
--- no operation reads and writes
-pub kinds_differ : {kind : Kind} → kind ≡ Read → kind ≡ Write → ⊥
-kinds_differ r w = cc
-
 module _ (ops : List Op) (op : Op) (value : ℕ) where
   value_more : (a : Op) → IsOfValue ops value a → IsOfValue (ops ++ op ∷ []) value a
   value_more a h = record { there = Contains-append_left ops (op ∷ []) a h.there; value_is = h.value_is }
@@ -124,14 +120,14 @@ module _ (ops : List Op) (op : Op) (last : (a : Op) → Contains ops a → lates
 
   row_grows_by : (kind : Kind) (row : Row) (at : ℕ) → op.kind ≡ kind → (IsWrite op → row.write ≡ None) → IsRowOf ops op.value row → IsRowOf (ops ++ op ∷ []) op.value (row_with kind (placed_row row op at) op)
   row_grows_by Read row at kind_is first h = record {
-    write = write_stays ops op op.value row.place.w row.write (λ w g same. kinds_differ kind_is (ap (λ (x : Op). x.kind) same ∙ g.kind)) h.write;
+    write = write_stays ops op op.value row.place.w row.write (λ w g same. (let writes = ap (λ (x : Op). x.kind) same ∙ g.kind in cc)) h.write;
     finish = finish_grows row.place.f row.at h.finish;
     start = start_grows row.place.s kind_is h.start;
   }
   row_grows_by Write row at kind_is first h = record {
     write = (op, record { there = Contains-push ops op; kind = kind_is; value_is = refl }, refl, refl);
     finish = finish_grows row.place.f row.at h.finish;
-    start = start_stays ops op op.value row.place.s (λ r g same. kinds_differ (ap (λ (x : Op). x.kind) same ∙ g.read.kind) kind_is) h.start;
+    start = start_stays ops op op.value row.place.s (λ r g same. (let reads = ap (λ (x : Op). x.kind) same ∙ g.read.kind in cc)) h.start;
   }
 
   -- the row of the operation's value

@@ -28,7 +28,7 @@ use Rattle.live_score.specs.Scores.{place_of, IsTimely, AreWithin}
 use Rattle.live_score.specs.Rows.{IsWriteKept, IsFinishOf, IsFinishKept, IsStartKept, IsRowOf, AreRows, shown}
 use Rattle.live_score.specs.Placing.{IsVacant, ArePlaced, IsScoreOfPlaces}
 use Rattle.live_score.specs.Invariant.{AreFed}
-use Rattle.live_score.proofs.Counting.{writer_of, counts_written}
+use Rattle.live_score.proofs.Counting.{writer_of, counted_is_fed, starts_by_finish, counts_written}
 use Rattle.live_score.proofs.Existence.{clusters_exist}
 use Rattle.live_score.proofs.PlacesGrow.{shown_at, shown_counted, shown_vacant, finish_of}
 use Rattle.live_score.proofs.Raising.{score_flips, score_vacant}
@@ -66,26 +66,13 @@ without_repeats ops differ i j x ati atj =
       ]
     ]
 
--- a valid operation starts before all ticks end, and no later than it finishes
+-- a valid operation starts before all ticks end
 starts_low : (values : ℕ) (a : Op) → IsValidOp values a → earliest_start a ≤ unbounded
 starts_low values a v =
     let tick = v.tick in
     cond_both (a.rec == 0) 0 (max 1 (a.start - a.slack)) (λ n. n ≤ unbounded) (λ _. omega arith) (λ _. omega arith)
 
-starts_by_finish : (values : ℕ) (a : Op) → IsValidOp values a → earliest_start a ≤ latest_finish a
-starts_by_finish values a v =
-    let starts = v.starts in
-    let ordered = v.ordered in
-    cond_both (a.rec == 0) 0 (max 1 (a.start - a.slack)) (λ n. n ≤ latest_finish a) (λ _. omega arith) (λ _. omega arith)
-
 module _ (values : ℕ) (fed : List Op) (are : AreFed values fed) where
-  -- what counts was fed
-  fed_of_counted : (a : Op) → Contains (counted fed) a → Contains (initial_write ∷ fed) a
-  fed_of_counted a c = elim (first_or_later initial_write a (filter (counts fed) fed) c) [
-    | inl same ↦ subst (λ (x : Op). Contains (initial_write ∷ fed) x) same (contains_first initial_write fed)
-    | inr there ↦ contains_later initial_write a fed (kept_is_there (counts fed) fed a there)
-  ]
-
   -- what was fed and counts
   counted_of_fed : (a : Op) → Contains (initial_write ∷ fed) a → counts fed a ≡ true → Contains (counted fed) a
   counted_of_fed a c t = elim (first_or_later initial_write a fed c) [
@@ -144,7 +131,7 @@ module _ (values : ℕ) (fed : List Op) (are : AreFed values fed) where
   ]
 
   write_fed : (value : ℕ) (w : Op) → IsWriteOf (counted fed) value w → IsWriteOf (initial_write ∷ fed) value w
-  write_fed value w h = record { there = fed_of_counted w h.there; kind = h.kind; value_is = h.value_is }
+  write_fed value w h = record { there = counted_is_fed fed w h.there; kind = h.kind; value_is = h.value_is }
 
   write_counted : (value : ℕ) (w : Op) → IsWriteOf (initial_write ∷ fed) value w → IsWriteOf (counted fed) value w
   write_counted value w h = record { there = counted_of_fed w h.there (write_counts w h.kind); kind = h.kind; value_is = h.value_is }
@@ -158,7 +145,7 @@ module _ (values : ℕ) (fed : List Op) (are : AreFed values fed) where
       written = counted_written;
       once = λ value v w hv hw. are.once value v w (write_fed value v hv) (write_fed value w hw);
     };
-    finish = λ a c. elim (initial_or_valid a (fed_of_counted a c)) [
+    finish = λ a c. elim (initial_or_valid a (counted_is_fed fed a c)) [
       | inl same ↦ subst (λ (x : Op). earliest_start x ≤ latest_finish x) same (omega arith)
       | inr valid ↦ starts_by_finish values a valid
     ];
@@ -167,7 +154,7 @@ module _ (values : ℕ) (fed : List Op) (are : AreFed values fed) where
   -- the cluster of a written value has the numbers of its row
   module _ (w : Op) (c : Cluster) (cluster : IsClusterOf (counted fed) w c) where
     w_fed : IsWriteOf (initial_write ∷ fed) w.value w
-    w_fed = record { there = fed_of_counted w cluster.there; kind = cluster.kind; value_is = refl }
+    w_fed = record { there = counted_is_fed fed w cluster.there; kind = cluster.kind; value_is = refl }
 
     member : (a : Op) → IsOfValue (initial_write ∷ fed) w.value a → IsOfValue (counted fed) w.value a
     member a h = record {
@@ -180,7 +167,7 @@ module _ (values : ℕ) (fed : List Op) (are : AreFed values fed) where
         let least = cluster.finishes in
         let one = least.least h.there.0 (member h.there.0 h.there.1) in
         let is = h.there.2 in
-        let two = h.least least.op (record { there = fed_of_counted least.op least.member.there; value_is = least.member.value_is }) in
+        let two = h.least least.op (record { there = counted_is_fed fed least.op least.member.there; value_is = least.member.value_is }) in
         let op_is = least.finish_is in
         omega arith
 
@@ -190,7 +177,7 @@ module _ (values : ℕ) (fed : List Op) (are : AreFed values fed) where
         record { read = record { there = m.there; kind = h.read.kind }; value_is = h.value_is }
 
     read_fed : (r : Op) → IsReadOf (counted fed) w.value r → IsReadOf (initial_write ∷ fed) w.value r
-    read_fed r h = record { read = record { there = fed_of_counted r h.read.there; kind = h.read.kind }; value_is = h.value_is }
+    read_fed r h = record { read = record { there = counted_is_fed fed r h.read.there; kind = h.read.kind }; value_is = h.value_is }
 
     start_is_by : (s : ℕ) (kept : Option ℕ) (last : ℕ) → AreReadsOf (counted fed) w kept last → IsStartKept (initial_write ∷ fed) w.value s → unwrap_or kept 0 ≡ s
     start_is_by s None last reads h = elim h.there [ inl zero_is ↦ sym zero_is | inr some ↦ absurd (reads.none some.0 (read_counted some.0 some.1)) ]
@@ -288,7 +275,7 @@ module _ (values : ℕ) (fed : List Op) (are : AreFed values fed) (rows : List R
   reads_fit : (w : Op) (kept : Option ℕ) (last : ℕ) → AreReadsOf (counted fed) w kept last → unwrap_or kept 0 ≤ unbounded
   reads_fit w None last reads = omega arith
   reads_fit w (Some s) last reads =
-      let fits = start_fits values fed are reads.op (fed_of_counted values fed are reads.op reads.member.read.there) in
+      let fits = start_fits values fed are reads.op (counted_is_fed fed reads.op reads.member.read.there) in
       let is = reads.start_is in
       omega arith
 

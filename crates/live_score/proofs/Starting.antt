@@ -19,7 +19,6 @@ use Rattle.live_score.specs.Placing.{IsVacant, IsShown, ArePlaced, IsGreatestWit
 use Rattle.live_score.specs.Invariant.{AreFed, IsKept}
 use Rattle.live_score.proofs.PlacesGrow.{rising_grows}
 use Rattle.live_score.proofs.Raising.{score_vacant}
-use Rattle.live_score.proofs.RowsGrow.{kinds_differ}
 use Rattle.live_score.proofs.Stands.{after_write, written}
 
 -- the place of absent, and the rows of absent and of a value that no operation has
@@ -40,7 +39,10 @@ value_is_zero : (a : Op) (value : ℕ) → Contains (initial_write ∷ []) a →
 value_is_zero a value c e = sym e ∙ sym (ap (λ (x : Op). x.value) (only_initial a c))
 
 no_read : (value : ℕ) (r : Op) → IsReadOf (initial_write ∷ []) value r → ⊥
-no_read value r h = kinds_differ h.read.kind (sym (ap (λ (x : Op). x.kind) (only_initial r h.read.there)))
+no_read value r h =
+    let reads = h.read.kind in
+    let writes = ap (λ (x : Op). x.kind) (only_initial r h.read.there) in
+    cc
 
 absent_says : IsRowOf (initial_write ∷ []) 0 absent_row
 absent_says = record {

@@ -1,5 +1,5 @@
 //! What calls took: replies that stand in the journals, and what a read returns of them.
-ghost use Rattle.std.specs.Prelude.{◌≡◌, ◌↔◌, ℕ, ◌==◌, ◌≤◌, List, All, IsTrue, IfOk, option_copied, find, map, drop, length};
+ghost use Rattle.std.specs.Prelude.{◌≡◌, ◌↔◌, ◌==◌, ◌≤◌, List, All, IsTrue, IfOk, option_copied, find, map, drop, length};
 ghost use Rattle.std.specs.List.{list_any};
 ghost use Rattle.stale_model.specs.declared.store.JournalEntry.{JournalEntry};
 ghost use Rattle.stale_model.specs.Orders.{IsWithoutRepeats};

@@ -48,7 +48,7 @@ fn finds_a_recorded_run(rt: HostRuntime) -> Result<(), Fail> {
 }
 
 #[test]
-fn finds_each_part_that_fails(rt: HostRuntime) -> Result<(), Fail> {
+fn finds_calls_that_fail(rt: HostRuntime) -> Result<(), Fail> {
     // The second call is missing.
     let history = b"client,op,key,value,start,finish,seq,took\n0,w,k0,v1,1,3,1,2\n".as_slice();
     assert_eq!(rt;
@@ -62,13 +62,6 @@ fn finds_each_part_that_fails(rt: HostRuntime) -> Result<(), Fail> {
         part_of(rt.alloc(), 100, history, JOURNAL)?,
         Part::Bad { part: 2 }
     );
-    // The second request is missing.
-    let journal =
-        b"replica,serve,client,seq,start,key,op,value,stamp\n0,2,0,1,1,k0,w,v1,1\n".as_slice();
-    assert_eq!(rt;
-        part_of(rt.alloc(), 100, HISTORY, journal)?,
-        Part::Bad { part: 3 }
-    );
     // Nothing was written, and the first read returns a value.
     let history =
         b"client,op,key,value,start,finish,seq,took\n0,r,k0,v1,1,3,1,2\n0,r,k0,,4,6,2,5\n".as_slice();
@@ -77,6 +70,18 @@ fn finds_each_part_that_fails(rt: HostRuntime) -> Result<(), Fail> {
     assert_eq!(rt;
         part_of(rt.alloc(), 0, history, journal)?,
         Part::Bad { part: 4 }
+    );
+    Ok(())
+}
+
+#[test]
+fn finds_journals_that_fail(rt: HostRuntime) -> Result<(), Fail> {
+    // The second request is missing.
+    let journal =
+        b"replica,serve,client,seq,start,key,op,value,stamp\n0,2,0,1,1,k0,w,v1,1\n".as_slice();
+    assert_eq!(rt;
+        part_of(rt.alloc(), 100, HISTORY, journal)?,
+        Part::Bad { part: 3 }
     );
     // The second write has a stamp before its start.
     let journal =
