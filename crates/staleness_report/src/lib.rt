@@ -3,9 +3,9 @@
 
 ghost use Rattle.std.specs.Prelude.{◌≡◌, length, IfOk};
 ghost use Rattle.std.specs.String.{string_bytes};
-ghost use Rattle.stale_model.specs.Valid.{IsValidHistory};
+ghost use Rattle.stale_model.specs.Valid.{IsValidKey, IsValidHistory};
 ghost use Rattle.staleness_report.specs.Escaped.{escaped};
-ghost use Rattle.staleness_report.specs.Report.{total_line, report_text};
+ghost use Rattle.staleness_report.specs.Report.{key_line, total_line, report_text};
 
 mod last_line;
 mod lines;
@@ -13,7 +13,7 @@ mod text;
 
 use crate::last_line::total_line;
 use crate::lines::key_lines;
-use stale_model::{Bytes, History, Memory, Verdict};
+use stale_model::{Bytes, History, KeyOps, Memory, Verdict};
 use std::alloc::{AllocError, Global};
 pub use text::{bytes_of, escaped_name, push_count};
 
@@ -34,6 +34,18 @@ fn report_text(alloc: Global, history: &History, verdicts: &[Verdict]) -> Result
     let mut text = key_lines(alloc, history.keys.as_slice(), verdicts)?;
     text.push_str(&total_line(alloc, history, verdicts)?)?;
     Ok(text)
+}
+
+/// The line of one key, as [`report`] has it: its name, the number of its operations and its
+/// verdict.
+///
+/// # Errors
+/// `Memory` may come at any time.
+pub fn key_line(alloc: Global, key: &KeyOps, verdict: &Verdict) -> Result<Bytes, Memory>
+    requires { IsValidKey key.now }
+    ensures { IfOk result (λ text. text ≡ key_line key.now verdict.now) }
+{
+    bytes_of(lines::key_line(alloc, key, verdict))
 }
 
 /// The last line of the report on a history, alone: how many keys, operations and skipped reads

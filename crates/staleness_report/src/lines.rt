@@ -90,8 +90,8 @@ fn verdict_text(alloc: Global, key: &KeyOps, verdict: &Verdict) -> Result<String
     }
 }
 
-// A key's line.
-fn key_line(alloc: Global, key: &KeyOps, verdict: &Verdict) -> Result<String, AllocError>
+/// A key's line.
+pub(crate) fn key_line(alloc: Global, key: &KeyOps, verdict: &Verdict) -> Result<String, AllocError>
     requires { IsValidKey key.now }
     ensures { IfOk result (λ text. string_bytes text ≡ key_line key.now verdict.now) }
 {
