@@ -56,8 +56,12 @@ module _ (b : Bench) (s s' : Shown) (quiet : s.writing ≡ None) (o o' e e' : Si
       | inr rose ↦ absurd (no_out rose)
     ];
   })
-  refused_ends refusal.Memory answer h says = rw (says.status_is, h.0, h.1) (record {
-    ends = record { status = status.OutOfMemory; number_is = refl; ends = record { shelf = refl; out = refl; says = says.says } };
+  refused_ends refusal.Memory answer h says = rw (says.status_is, h.shelf, h.out_is) (record {
+    ends = record {
+      status = status.OutOfMemory;
+      number_is = refl;
+      ends = record { unrefused = h.unrefused; refuses = record { shelf = refl; out = refl; says = says.says } };
+    };
     keeps = record { shelf = keeps_same b s quiet; out = omega arith; err = says.says.keeps };
     complete = λ no_write no_out no_start. inr refl;
   })

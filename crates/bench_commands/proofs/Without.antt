@@ -1,5 +1,5 @@
 -- How a call ends where memory is wanting for the words, so that nothing was done.
-use Rattle.std.proofs.Common.{◌≡◌, ℕ, List, Option, Some, None, refl, inr}
+use Rattle.std.proofs.Common.{◌≡◌, ℕ, List, Option, Some, None, refl, inl, inr}
 use Rattle.std.specs.Prelude.{IfSome}
 use Rattle.audit_ports.specs.Shelf.{Shown}
 use Rattle.audit_ports.specs.Sink.{SinkShown}
@@ -48,4 +48,4 @@ module _ (s : Shown) (quiet : s.writing ≡ None) (o e e' : SinkShown) (says : S
   pub bench_without_memory : (crew : CrewView JobView) (asked : Option Bench)
       → IfSome asked (λ b. EndsBench b (outside s o e) (outside s o e') crew crew (number status.OutOfMemory))
   bench_without_memory crew asked =
-      where_some asked _ (λ b. refused_ends b s s quiet o o e e' crew crew refusal.Memory bench_status.OutOfMemory (refl, refl) (record { status_is = refl; says = says }))
+      where_some asked _ (λ b. refused_ends b s s quiet o o e e' crew crew refusal.Memory bench_status.OutOfMemory (record { unrefused = inl refl; shelf = refl; out_is = refl }) (record { status_is = refl; says = says }))

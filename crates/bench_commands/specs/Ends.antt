@@ -7,7 +7,7 @@ use Rattle.audit_words.specs.declared.bench.Bench.{Bench}
 use Rattle.command_outputs.specs.Lines.{SaysLine, write_failed_line, memory_line}
 use Rattle.audit_commands.specs.Ends.{Outside}
 use Rattle.bench_run.specs.Jobs.{JobView}
-use Rattle.bench_run.specs.Drive.{IsRefusedAt}
+use Rattle.bench_run.specs.Drive.{AreBegun, IsRefusedAt}
 use Rattle.bench_commands.specs.declared.status.BenchStatus.{BenchStatus}
 use Rattle.bench_commands.specs.declared.status.BenchStatus.TheVariants as status
 use Rattle.bench_commands.specs.Status.{number}
@@ -49,12 +49,21 @@ pub record EndsNotStarted (b : Bench) (old new : Outside) (crew crew' : CrewView
   pub stopped : IsRefusedAt b.settings.replicas replica crew crew'
   pub refuses : Refuses (not_started_line replica) old new
 
+-- the crew refused no start: it is as it was, or it began all replicas, in order
+abbrev pub IsUnrefused : ℕ → CrewView JobView → CrewView JobView → Type 0
+IsUnrefused replicas crew crew' = (crew' ≡ crew) ⊎ AreBegun replicas crew crew'
+
+-- memory was wanting, and no replica was refused
+pub record EndsOutOfMemory (b : Bench) (old new : Outside) (crew crew' : CrewView JobView) : Type 0 where
+  pub unrefused : IsUnrefused b.settings.replicas crew crew'
+  pub refuses : Refuses memory_line old new
+
 -- what a status of a bench means
 abbrev pub Ends : Bench → Outside → Outside → CrewView JobView → CrewView JobView → BenchStatus → Type 0
 Ends b old new crew crew' status.Done = EndsDone b old new crew crew'
 Ends b old new crew crew' status.WriteFailed = EndsWriteFailed b old new crew crew'
 Ends b old new crew crew' status.NotStarted = EndsNotStarted b old new crew crew'
-Ends b old new crew crew' status.OutOfMemory = Refuses memory_line old new
+Ends b old new crew crew' status.OutOfMemory = EndsOutOfMemory b old new crew crew'
 
 -- the bench ended as this number of a status means
 pub record EndsAs (b : Bench) (old new : Outside) (crew crew' : CrewView JobView) (answer : ℕ) : Type 0 where

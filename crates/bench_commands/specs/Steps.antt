@@ -22,13 +22,13 @@ use Rattle.bench_commands.specs.declared.recording.Recording.{Recording}
 use Rattle.bench_commands.specs.declared.texts.Texts.{Texts}
 use Rattle.bench_commands.specs.Lines.{not_started_line}
 use Rattle.bench_commands.specs.Outputs.{WritesAll, WritesSome}
-use Rattle.bench_commands.specs.Ends.{BenchDone, BenchUnwritten}
+use Rattle.bench_commands.specs.Ends.{BenchDone, BenchUnwritten, IsUnrefused}
 
--- why there is no recording: the crew refused this replica, or memory was wanting
+-- why there is no recording: the crew refused this replica, or memory was wanting and it refused none
 abbrev pub IsUnrecorded : Settings → CrewView JobView → CrewView JobView → BenchRefusal → Type 0
 IsUnrecorded s crew crew' (refusal.NotStarted replica) = IsRefusedAt s.replicas replica crew crew'
 IsUnrecorded s crew crew' refusal.WriteFailed = ⊥
-IsUnrecorded s crew crew' refusal.Memory = ⊤
+IsUnrecorded s crew crew' refusal.Memory = IsUnrefused s.replicas crew crew'
 
 -- this text reads as a history
 abbrev pub IsHistoryText : List ℕ → Type 0
@@ -59,11 +59,17 @@ pub record IsNotStarted (b : Bench) (replica : ℕ) (old new : Shown) (out out' 
   pub shelf : new ≡ old
   pub out_is : out' ≡ out
 
+-- nothing was written, since memory was wanting, and the crew refused no replica
+pub record IsWithoutMemory (b : Bench) (old new : Shown) (out out' : SinkShown) (crew crew' : CrewView JobView) : Type 0 where
+  pub unrefused : IsUnrefused b.settings.replicas crew crew'
+  pub shelf : new ≡ old
+  pub out_is : out' ≡ out
+
 -- what a refusal of a bench says
 abbrev pub IsRefused : Bench → Shown → Shown → SinkShown → SinkShown → CrewView JobView → CrewView JobView → BenchRefusal → Type 0
 IsRefused b old new out out' crew crew' (refusal.NotStarted replica) = IsNotStarted b replica old new out out' crew crew'
 IsRefused b old new out out' crew crew' refusal.WriteFailed = BenchUnwritten b old new out out' crew crew'
-IsRefused b old new out out' crew crew' refusal.Memory = (new ≡ old) × (out' ≡ out)
+IsRefused b old new out out' crew crew' refusal.Memory = IsWithoutMemory b old new out out' crew crew'
 
 -- how a bench went
 pub record Performs {T : Type 0} (b : Bench) (old new : Shown) (out out' : SinkShown) (crew crew' : CrewView JobView) (result : Result T BenchRefusal) : Type 0 where

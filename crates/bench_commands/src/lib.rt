@@ -45,7 +45,7 @@ use std::thread::Threads;
 ///   and JOURNAL as it was or a part of its text; or both are whole. Then `out` gained a part of the report, from
 ///   nothing to all.
 /// - 9: the crew refused the replica that the line names. No client made a call.
-/// - 10: want of memory.
+/// - 10: want of memory. The crew refused no replica: it is as it was, or it started each of them.
 ///
 /// After 9 and 10 no file has changed, and `out` is as it was. The store may wait for its threads: nothing says that
 /// this returns, which replies come first, or that a read is fresh.
