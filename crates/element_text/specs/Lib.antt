@@ -1,0 +1,5 @@
+pub mod Elements
+pub mod Gains
+pub mod Reading
+pub mod Laws
+pub mod Examples
