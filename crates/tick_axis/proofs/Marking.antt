@@ -95,13 +95,6 @@ is_base s fits =
       | inr late ↦ subst P (sym (cond-false (ltb s.last (1000 * step_of s)) 0 (s.first - s.first % (100 * step_of s)) (le-ltb s.last (1000 * step_of s) late))) (later_base s (step_of s) refl positive few)
     ]
 
--- the test that the program makes
-pub early_at : (last step : ℕ) → 0 < step → last / 1000 < step → last < 1000 * step
-early_at last step positive h = omega arith
-
-pub late_at : (last step : ℕ) → step ≤ last / 1000 → 1000 * step ≤ last
-late_at last step h = omega arith
-
 -- before the first multiple there are none
 pub none_so_far : (marks : List ℕ) (step from number : ℕ) → number ≡ from → marks ≡ [] → marks ≡ map (λ n. n * step) (range_with_len from (number - from))
 none_so_far marks step from number e empty =
