@@ -1,0 +1,4 @@
+pub mod InOrder
+pub mod Moments
+pub mod Laws
+pub mod Examples
