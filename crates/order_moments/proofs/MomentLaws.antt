@@ -1,18 +1,16 @@
 -- The laws of moments.
-use Rattle.std.proofs.Common.{◌≡◌, ℕ, ◌+◌, ◌<◌, ◌≤◌, min, List, length, get_or, refl, sym, ◌∙◌, ap, inl, inr, subst, arith}
-use Rattle.std.specs.Prelude.{Contains}
+use Rattle.std.proofs.Common.{◌≡◌, ℕ, ◌+◌, min, List, get_or, sym, ap, inl, inr, subst, arith}
 use Rattle.std.proofs.lemmas.Bool.{cases_lt}
-use Rattle.std.proofs.lemmas.Option.{slice_get_within, slice_get-get_or, get_or_from_slice_get}
+use Rattle.std.proofs.lemmas.Option.{slice_get_within, slice_get-get_or}
 use Rattle.std.proofs.lemmas.List.{same_lists}
 use Rattle.std.proofs.lemmas.List.Sorted.{Contains-permutation, IsPermutation-sym}
 use Rattle.stale_model.specs.declared.Op.{Op}
-use Rattle.stale_model.specs.Operations.{earliest_start, latest_finish, records_of}
-use Rattle.stale_model.specs.Precedence.{moved, Precedes}
-use Rattle.stale_model.specs.Orders.{StandsAt, IsOrder}
+use Rattle.stale_model.specs.Operations.{earliest_start, latest_finish}
+use Rattle.stale_model.specs.Precedence.{moved}
+use Rattle.stale_model.specs.Orders.{StandsAt}
 use Rattle.stale_model.proofs.Places.{same_at, something_at, contains_at, record_stands}
-use Rattle.order_moments.specs.InOrder.{AreInOrder, ExtendsPrecedence}
-use Rattle.order_moments.specs.Moments.{StandsFrom, IsMoment, AreMoments}
-use Rattle.order_moments.specs.Laws.{MomentsAreOne, MomentsRise, MomentsEndByFinishes, MomentsFollowStarts, MomentsBeforeStartsAreForced, TicksShowPrecedence, MomentsAreWithinTimes, OrdersExtendPrecedence}
+use Rattle.order_moments.specs.Moments.{IsMoment}
+use Rattle.order_moments.specs.Laws.{MomentsAreOne, MomentsRise, MomentsEndByFinishes, MomentsFollowStarts, MomentsBeforeStartsAreForced, MomentsAreWithinTimes, OrdersExtendPrecedence}
 use Rattle.order_moments.proofs.OwnTicks.{own_there}
 
 pub moments_rise : MomentsRise

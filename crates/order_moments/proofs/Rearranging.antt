@@ -1,5 +1,5 @@
 -- Operations that are picked by their records, in an order of these.
-use Rattle.std.proofs.Common.{◌≡◌, ℕ, suc, ◌+◌, ◌<◌, ◌≤◌, ◌^◌, List, [], ◌∷◌, ◌++◌, length, get_or, map, take, refl, sym, ◌∙◌, ap, inl, inr, subst, arith}
+use Rattle.std.proofs.Common.{◌≡◌, ℕ, ◌<◌, List, length, get_or, sym, ◌∙◌, ap, inl, inr, subst, arith}
 use Rattle.std.specs.Prelude.{◌≢◌, Contains, All}
 use Rattle.std.specs.List.{HoldsAt}
 use Rattle.std.specs.List.Sorted.{IsPermutation, IsNonDecreasingBy, IsPartitionPoint}
@@ -8,12 +8,12 @@ use Rattle.std.specs.declared.cmp.Ordering.TheVariants.{Less, Equal, Greater}
 use Rattle.std.specs.Ordering.{nat_cmp, on, ordering_index}
 use Rattle.std.proofs.lemmas.Bool.{cases_lt}
 use Rattle.std.proofs.lemmas.Cmp.{nat_cmp_total, on_total, ranked}
-use Rattle.std.proofs.lemmas.List.Elements.{All-contains, All-cons, Contains-get_or}
+use Rattle.std.proofs.lemmas.List.Elements.{All-cons, Contains-get_or}
 use Rattle.std.proofs.lemmas.List.Sorted.{searchable_from_sorted, Contains-permutation, IsPermutation-sym, IsPermutation-trans}
 use Rattle.stale_model.specs.declared.Op.{Op}
 use Rattle.stale_model.specs.declared.KeyOps.{KeyOps}
-use Rattle.stale_model.specs.Operations.{initial_write, operations, records_of, latest_finish}
-use Rattle.stale_model.specs.Valid.{IsValidOp, IsValidKey}
+use Rattle.stale_model.specs.Operations.{initial_write, operations, records_of}
+use Rattle.stale_model.specs.Valid.{IsValidKey}
 use Rattle.stale_model.specs.Orders.{IsWithoutRepeats, ListsEachOnce}
 use Rattle.stale_model.specs.Refutations.{IsOfRecord}
 use Rattle.stale_model.proofs.Comparisons.{same_nat, nat_same}

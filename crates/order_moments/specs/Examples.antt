@@ -24,6 +24,7 @@ overlapping_moments = 0 ∷ 1 ∷ 8 ∷ 8 ∷ 9 ∷ []
 abbrev pub open_order : List Op
 open_order = initial_write ∷ write 1 1 5 (2 ^ 63) ∷ read 2 1 8 9 ∷ []
 
+-- each happens as it starts
 abbrev pub open_moments : List ℕ
 open_moments = 0 ∷ 5 ∷ 8 ∷ []
 
@@ -31,6 +32,7 @@ open_moments = 0 ∷ 5 ∷ 8 ∷ []
 abbrev pub twice_stale_order : List Op
 twice_stale_order = initial_write ∷ write 1 1 1 2 ∷ read 4 1 20 21 ∷ read 3 1 10 11 ∷ write 2 2 3 4 ∷ read 5 2 30 31 ∷ []
 
+-- both happen where the later write ended
 abbrev pub twice_stale_moments : List ℕ
 twice_stale_moments = 0 ∷ 1 ∷ 4 ∷ 4 ∷ 4 ∷ 30 ∷ []
 
@@ -38,5 +40,6 @@ twice_stale_moments = 0 ∷ 1 ∷ 4 ∷ 4 ∷ 4 ∷ 30 ∷ []
 abbrev pub slack_order : List Op
 slack_order = initial_write ∷ write 1 1 1 2 ∷ read_within 3 1 7 9 2 ∷ write_within 2 2 3 4 2 ∷ []
 
+-- so it is moved by nothing
 abbrev pub slack_moments : List ℕ
 slack_moments = 0 ∷ 1 ∷ 5 ∷ 5 ∷ []

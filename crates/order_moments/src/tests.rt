@@ -1,11 +1,11 @@
 //! That the calls succeed where memory is ample.
-ghost use Rattle.std.specs.Prelude.{◌≡◌, ◌∷◌, [], length, IfOk};
+ghost use Rattle.std.specs.Prelude.{◌≡◌, ◌∷◌, [], IfOk};
 ghost use Rattle.stale_model.specs.Valid.{IsValidKey};
 ghost use Rattle.stale_model.specs.Operations.{operations, records_of};
 ghost use Rattle.stale_model.specs.Orders.{ListsEachOnce};
 
 use super::*;
-use stale_model::{Bytes, INITIAL_WRITE, KeyOps, Kind, List, Memory, Op};
+use stale_model::{Bytes, INITIAL_WRITE, KeyOps, List, Memory, Op};
 use std::alloc::Global;
 use std::test::Fail;
 

@@ -1,4 +1,4 @@
-use Rattle.std.proofs.Common.{◌≡◌, ◌∙◌, ◌+◌, suc, ◌∷◌, [], ◌++◌, ℕ, length, get_or, min, max, refl, sym, ap, inl, inr, subst, arith}
+use Rattle.std.proofs.Common.{◌≡◌, ◌∙◌, ◌+◌, suc, ◌∷◌, [], ◌++◌, ℕ, length, get_or, min, refl, sym, ap, inl, inr, arith}
 use Rattle.std.proofs.lemmas.List.{length_push}
 use Rattle.std.proofs.lemmas.Option.{slice_get-get_or}
 use Rattle.stale_model.specs.declared.Op.{Op}
